@@ -1,10 +1,10 @@
 -- The faults that count, by those of all rows.
-use Rattle.std.proofs.Common.{◌≡◌, ℕ, ◌<◌, ◌≤◌, Bool, true, false, cond, List, [], ◌∷◌, ◌++◌, None, arith, refl, sym, ◌∙◌, ap, ◌||◌, not}
-use Rattle.std.specs.List.{Contains, filter, range_with_len}
+use Rattle.std.proofs.Common.{◌≡◌, ℕ, ◌<◌, ◌≤◌, true, false, List, [], ◌∷◌, ◌++◌, None, arith, refl, sym, ◌∙◌, ap, ◌||◌, not}
+use Rattle.std.specs.List.{filter, range_with_len}
 use Rattle.bdb_btree.specs.of_format.declared.kinds.Fault.{Fault}
 use Rattle.bdb_btree.specs.of_format.Terms.{File, contents_faults, faults_in, faults_of, file_of, first_judgement, master_faults, master_in, or_else, page_at}
 use Rattle.bdb_btree.specs.of_format.Terms.{stage_faults, structure_faults}
-use Rattle.bdb_btree.proofs.of_format.MemberLemmas.{first_member, later_member}
+use Rattle.bdb_btree.proofs.of_format.MemberLemmas.{all_pass}
 use Rattle.bdb_btree.proofs.of_format.VerdictLemmas.{none_within, or_else_none, or_else_nothing}
 use Rattle.bdb_any_order.specs.AnyOrder.{contents_by, counts, faults_by_rows, holds_under, is_of_order, stages_by, verdict_by}
 use Rattle.bdb_any_order.specs.Laws.{AllAreOfAll, SameWithoutOrder, SoundInAnyOrder}
@@ -69,12 +69,6 @@ sound_in_any_order image sound = fewer image (all_faults image ∙ sound)
 
 -- Where no row of order holds.
 
-kept_all : {X : Type 0} (test : X → Bool) (xs : List X) → ((x : X) → Contains xs x → test x ≡ true) → filter test xs ≡ xs
-kept_all test [] passes = refl
-kept_all test (x ∷ xs) passes =
-    ap (λ b. cond b (x ∷ filter test xs) (filter test xs)) (passes x (first_member x xs))
-    ∙ ap (λ ys. x ∷ ys) (kept_all test xs (λ y at. passes y (later_member x xs y at)))
-
 others_count : (file : File) (fault : Fault) → is_of_order fault ≡ false → counts file fault ≡ true
 others_count file fault other = ap (λ b. not b || holds_under file (master_in (page_at file 0)) fault) other
 
@@ -83,5 +77,5 @@ unfolding faults_by_rows
 same_without_order image none =
     let file : File = file_of image in
     ap (λ fs. or_else (faults_in (range_with_len 1 7) image) (λ _. fs))
-    (kept_all (counts file) (contents_faults file) (λ fault at. others_count file fault (none fault at)))
+    (all_pass (counts file) (contents_faults file) (λ fault at. others_count file fault (none fault at)))
     ∙ all_faults image

@@ -10,14 +10,7 @@ use Rattle.bdb_homes.specs.Homes.{home}
 use Rattle.bdb_apart.specs.Found.{Found, found}
 use Rattle.bdb_apart.specs.Given.{db_at, fits_record, meta_at, numbered_entry, numbered_on, records_beside, records_left, records_left_on, records_without}
 use Rattle.bdb_apart.specs.Given.{start_in}
-
-filter_few : {X : Type 0} (test : X → Bool) (xs : List X) → length (filter test xs) ≤ length xs
-filter_few test [] = omega arith
-filter_few test (x ∷ xs) = by_test (test x) (filter_few test xs)
-  where
-    by_test : (b : Bool) → length (filter test xs) ≤ length xs → length (cond b (x ∷ filter test xs) (filter test xs)) ≤ length (x ∷ xs)
-    by_test true rest = omega (arith, rest)
-    by_test false rest = omega (arith, rest)
+use Rattle.bdb_rescue.proofs.of_format.MemberLemmas.{few_pass}
 
 joined_few : {X Y Z : Type 0} (f : X → List Y) (g : X → List Z) (xs : List X) → ((x : X) → length (f x) ≤ length (g x))
     → length (flat_map f xs) ≤ length (flat_map g xs)
@@ -46,7 +39,7 @@ without_few file db p (Some start) =
     omega (
       arith,
       length-map (filter (λ placed. not (fits_record db.fields placed)) (numbered_on file p start)) (λ (placed : ℕ × List ℕ). placed.1),
-      filter_few (λ (placed : ℕ × List ℕ). not (fits_record db.fields placed)) (numbered_on file p start),
+      few_pass (λ (placed : ℕ × List ℕ). not (fits_record db.fields placed)) (numbered_on file p start),
       live_few file p start,
     )
 

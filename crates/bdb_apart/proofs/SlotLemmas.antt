@@ -13,17 +13,17 @@ use Rattle.bdb_rescue.specs.of_format.declared.metadata.QueueMeta.{QueueMeta}
 use Rattle.bdb_rescue.specs.of_format.Terms.{Row, byte_at, field_rows, first_row, four_at, pad4, queue_fields, records_per_page}
 use Rattle.bdb_rescue.proofs.of_format.VerdictLemmas.{none_is_first_row}
 use Rattle.bdb_rescue.specs.Kept.{Reading, file_in}
-use Rattle.bdb_apart.specs.Queues.{bytes_at, is_queue_meta, is_queue_page, queue_from, queue_in, queue_on, queue_records_on, queue_slot, slots_from}
+use Rattle.bdb_apart.specs.Queues.{bytes_at, is_queue_meta, is_queue_page, queue_from, queue_in, queue_on, queue_records_on, queue_slot, queue_slots_from}
 use Rattle.bdb_apart.specs.Slots.{HasSlots}
 
 -- The slots of a page.
 
-pub slots_none : (meta : QueueMeta) (p : ℕ) (records : List ℕ) (slot : ℕ) → meta.per_page ≤ slot → slots_from meta p records slot ≡ []
+pub slots_none : (meta : QueueMeta) (p : ℕ) (records : List ℕ) (slot : ℕ) → meta.per_page ≤ slot → queue_slots_from meta p records slot ≡ []
 slots_none meta p records slot past =
     ap (λ n. flat_map (queue_slot meta p records) (range_with_len slot n)) (let none : meta.per_page - slot ≡ 0 = omega (arith, past) in none)
 
 pub slots_more : (meta : QueueMeta) (p : ℕ) (records : List ℕ) (slot : ℕ) → slot < meta.per_page
-    → slots_from meta p records slot ≡ queue_slot meta p records slot ++ slots_from meta p records (slot + 1)
+    → queue_slots_from meta p records slot ≡ queue_slot meta p records slot ++ queue_slots_from meta p records (slot + 1)
 slots_more meta p records slot inside =
     ap (λ n. flat_map (queue_slot meta p records) (range_with_len slot n))
     (let more : meta.per_page - slot ≡ suc (meta.per_page - (slot + 1)) = omega (arith, inside) in more)
@@ -57,13 +57,13 @@ queue_none reading meta p past =
 -- a page that has its number, and the type of pages of a queue, has records
 pub on_queue_page : (reading : Reading) (meta : QueueMeta) (p : ℕ) (page records : List ℕ) → page ≡ bytes_at reading p → records ≡ drop 28 page
     → byte_at page 25 ≡ 11 → four_at reading.guess.order page 8 ≡ p
-    → slots_from meta p records 0 ≡ queue_records_on reading meta p
+    → queue_slots_from meta p records 0 ≡ queue_records_on reading meta p
 on_queue_page reading meta p page records is behind kind number =
-    ap (λ rest. slots_from meta p rest 0) behind
-    ∙ (sym (ap (λ b. cond b (slots_from meta p (drop 28 page) 0) [])
+    ap (λ rest. queue_slots_from meta p rest 0) behind
+    ∙ (sym (ap (λ b. cond b (queue_slots_from meta p (drop 28 page) 0) [])
     (both (byte_at page 25 == 11) (four_at reading.guess.order page 8 == p)
     (eq-eqb (byte_at page 25) 11 kind) (eq-eqb (four_at reading.guess.order page 8) p number)))
-    ∙ ap (λ bytes. cond (is_queue_page reading.guess.order p bytes) (slots_from meta p (drop 28 bytes) 0) []) is)
+    ∙ ap (λ bytes. cond (is_queue_page reading.guess.order p bytes) (queue_slots_from meta p (drop 28 bytes) 0) []) is)
   where
     both : (a b : Bool) → a ≡ true → b ≡ true → (a && b) ≡ true
     both true true isa isb = refl

@@ -35,12 +35,12 @@ queue_slot meta p records slot =
     then (record_number meta p slot, slice_range records (slot_at meta slot + 1) (slot_at meta slot + 1 + meta.re_len)) ∷ [] else []
 
 -- the records in the slots of a page from one on
-abbrev pub slots_from : QueueMeta → ℕ → List ℕ → ℕ → List (ℕ × List ℕ)
-slots_from meta p records slot = flat_map (queue_slot meta p records) (range_with_len slot (meta.per_page - slot))
+abbrev pub queue_slots_from : QueueMeta → ℕ → List ℕ → ℕ → List (ℕ × List ℕ)
+queue_slots_from meta p records slot = flat_map (queue_slot meta p records) (range_with_len slot (meta.per_page - slot))
 
 abbrev pub queue_records_on : Reading → QueueMeta → ℕ → List (ℕ × List ℕ)
 queue_records_on reading meta p =
-    if is_queue_page reading.guess.order p (bytes_at reading p) then slots_from meta p (drop 28 (bytes_at reading p)) 0 else []
+    if is_queue_page reading.guess.order p (bytes_at reading p) then queue_slots_from meta p (drop 28 (bytes_at reading p)) 0 else []
 
 -- the records of a queue from a page on
 abbrev pub queue_from : Reading → QueueMeta → ℕ → List (ℕ × List ℕ)

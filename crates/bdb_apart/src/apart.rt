@@ -25,6 +25,7 @@ use std::marker::Model;
 use std::sync::ledger::Ledger;
 
 /// What is salvaged of an image, database by database: the home of each page, and the databases that are found. It keeps 48 bytes for each page.
+#[derive(Drop)]
 pub struct Apart<'s, 'a> {
     salvaged: &'s Salvaged<'a>,
     homes: PageHomes<'a>,
@@ -32,18 +33,6 @@ pub struct Apart<'s, 'a> {
     /// What a database holds whose metadata stand on a page.
     held: Vec<Option<Holds>>,
     places: Vec<Place<'s>>,
-}
-
-impl Drop for Apart<'_, '_> {
-    fn drop(self) {
-        let Apart {
-            salvaged: _salvaged,
-            homes: _homes,
-            rows: _rows,
-            held: _held,
-            places: _places,
-        } = self;
-    }
 }
 
 impl<'s, 'a> Model for Apart<'s, 'a> {

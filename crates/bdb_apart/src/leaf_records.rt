@@ -44,24 +44,13 @@ impl<'s, 'a> Fitting<'s, 'a> {
 }
 
 /// The records on leaves of a database that are left.
+#[derive(Drop)]
 pub(crate) struct LeafRecords<'t, 's, 'a> {
     salvaged: &'s Salvaged<'a>,
     homes: &'t PageHomes<'a>,
     holds: Holds,
     here: Option<Fitting<'s, 'a>>,
     pages: Pages<'t>,
-}
-
-impl Drop for LeafRecords<'_, '_, '_> {
-    fn drop(self) {
-        let LeafRecords {
-            salvaged: _salvaged,
-            homes: _homes,
-            holds: _holds,
-            here: _here,
-            pages: _pages,
-        } = self;
-    }
 }
 
 impl<'t, 's, 'a> Model for LeafRecords<'t, 's, 'a> {

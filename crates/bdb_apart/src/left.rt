@@ -13,20 +13,11 @@ use bdb_rescue::{Datum, SalvagePairs, SalvageRecords};
 use std::marker::Model;
 
 /// The pairs of a page that are left. Where it's a leaf of a master, those that name a database that is found are left out.
+#[derive(Drop)]
 pub(crate) struct Others<'t, 's, 'a> {
     apart: &'t Apart<'s, 'a>,
     names: bool,
     pairs: SalvagePairs<'s, 'a>,
-}
-
-impl Drop for Others<'_, '_, '_> {
-    fn drop(self) {
-        let Others {
-            apart: _apart,
-            names: _names,
-            pairs: _pairs,
-        } = self;
-    }
 }
 
 impl<'t, 's, 'a> Model for Others<'t, 's, 'a> {
@@ -55,20 +46,11 @@ impl<'t, 's, 'a> Others<'t, 's, 'a> {
 }
 
 /// The pairs that belong to no database and are left.
+#[derive(Drop)]
 pub struct PairsLeft<'t, 's, 'a> {
     apart: &'t Apart<'s, 'a>,
     here: Option<Others<'t, 's, 'a>>,
     page: u32,
-}
-
-impl Drop for PairsLeft<'_, '_, '_> {
-    fn drop(self) {
-        let PairsLeft {
-            apart: _apart,
-            here: _here,
-            page: _page,
-        } = self;
-    }
 }
 
 impl<'t, 's, 'a> Model for PairsLeft<'t, 's, 'a> {
@@ -183,20 +165,11 @@ impl<'s, 'a> Loose<'s, 'a> {
 }
 
 /// The records that belong to no database and are left.
+#[derive(Drop)]
 pub struct RecordsLeft<'t, 's, 'a> {
     apart: &'t Apart<'s, 'a>,
     here: Option<Loose<'s, 'a>>,
     page: u32,
-}
-
-impl Drop for RecordsLeft<'_, '_, '_> {
-    fn drop(self) {
-        let RecordsLeft {
-            apart: _apart,
-            here: _here,
-            page: _page,
-        } = self;
-    }
 }
 
 impl<'t, 's, 'a> Model for RecordsLeft<'t, 's, 'a> {

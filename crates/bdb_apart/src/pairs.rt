@@ -11,22 +11,12 @@ use bdb_rescue::{Datum, SalvagePairs, Salvaged};
 use std::marker::Model;
 
 /// The pairs of a database that are left.
+#[derive(Drop)]
 pub struct Pairs<'t, 's, 'a> {
     salvaged: &'s Salvaged<'a>,
     holds: Holds,
     here: Option<SalvagePairs<'s, 'a>>,
     pages: Pages<'t>,
-}
-
-impl Drop for Pairs<'_, '_, '_> {
-    fn drop(self) {
-        let Pairs {
-            salvaged: _salvaged,
-            holds: _holds,
-            here: _here,
-            pages: _pages,
-        } = self;
-    }
 }
 
 impl<'t, 's, 'a> Model for Pairs<'t, 's, 'a> {

@@ -69,12 +69,12 @@ pub(crate) struct PageSlots<'a> {
 
 impl<'a> Model for PageSlots<'a> {
     ghost use Rattle.std.specs.Prelude.{List, ℕ};
-    ghost use Rattle.bdb_apart.specs.Queues.{slots_from};
+    ghost use Rattle.bdb_apart.specs.Queues.{queue_slots_from};
     ghost use Rattle.bdb_apart.specs.Slots.{IsOnPage};
 
     ghost Value = { List (ℕ × List ℕ) };
 
-    ghost view = { λ v. slots_from v.meta v.page v.bytes.now v.slot };
+    ghost view = { λ v. queue_slots_from v.meta v.page v.bytes.now v.slot };
 
     ghost invariant = { λ v. IsOnPage v.meta v.page v.bytes.now };
 }
@@ -98,22 +98,12 @@ impl<'a> PageSlots<'a> {
 }
 
 /// The records of a queue that are left.
+#[derive(Drop)]
 pub(crate) struct QueueRecords<'s, 'a> {
     salvaged: &'s Salvaged<'a>,
     meta: QueueMeta,
     here: Option<PageSlots<'a>>,
     page: u32,
-}
-
-impl Drop for QueueRecords<'_, '_> {
-    fn drop(self) {
-        let QueueRecords {
-            salvaged: _salvaged,
-            meta: _meta,
-            here: _here,
-            page: _page,
-        } = self;
-    }
 }
 
 impl<'s, 'a> Model for QueueRecords<'s, 'a> {

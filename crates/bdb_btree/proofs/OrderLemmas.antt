@@ -10,7 +10,8 @@ use Rattle.bdb_ranks.specs.of_format.Terms.{File, StoredPair, ascends, ascends_f
 use Rattle.bdb_ranks.specs.of_format.Terms.{neighbours_from}
 use Rattle.bdb_ranks.proofs.of_format.MemberLemmas.{member_cases, no_member}
 use Rattle.bdb_btree.specs.Rows.{Passed, has_wrong_order, next_pair, no_pairs_passed, passes}
-use Rattle.bdb_btree.specs.Runs.{KeyOrder, Ascent, follow, is_not_above, is_wrong_key, next_key}
+use Rattle.bdb_ranks.specs.Order.{is_not_above}
+use Rattle.bdb_btree.specs.Runs.{KeyOrder, Ascent, follow, is_wrong_key, next_key}
 
 -- Keys.
 

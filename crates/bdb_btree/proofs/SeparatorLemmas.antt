@@ -12,7 +12,7 @@ use Rattle.std.proofs.Math.Bool.{or-false, or_assoc}
 use Rattle.bdb_ranks.specs.of_format.Terms.{Separated, breaks, less, no_separator}
 use Rattle.bdb_ranks.proofs.of_format.MemberLemmas.{in_range, none_pass, none_passes, of_range}
 use Rattle.bdb_btree.specs.Bounds.{Bounds, bounds_of, greater_of, is_below, no_bounds, past, under}
-use Rattle.bdb_btree.specs.Runs.{is_not_above}
+use Rattle.bdb_ranks.specs.Order.{is_not_above}
 use Rattle.bdb_ranks.proofs.of_format.BoolLemmas.{second_false}
 use Rattle.bdb_ranks.proofs.of_format.LessLemmas.{below_less, less_above, less_self, less_trans}
 

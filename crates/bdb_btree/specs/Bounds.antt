@@ -4,7 +4,7 @@ use Rattle.std.specs.List.{Contains, fold, slice_get}
 use Rattle.bdb_ranks.specs.of_format.Terms.{File, InternalItem, Separated, StoredPair, less, tree_pairs, value_of}
 use Rattle.bdb_ranks.specs.of_overflow.Datum.{FitsContent}
 use Rattle.bdb_ranks.specs.of_tree.Trees.{IsTreePage}
-use Rattle.bdb_btree.specs.Runs.{is_not_above}
+use Rattle.bdb_ranks.specs.Order.{is_not_above}
 
 -- the key of the last item above index 0, the greatest of the keys below the items so far, and whether a condition failed
 pub record Bounds : Type 0 where
@@ -83,12 +83,13 @@ pub record Ends : Type 0 where
 abbrev pub no_ends : Ends
 no_ends = record { least = None; greatest = None }
 
--- one more key
-abbrev pub widen : Ends → List ℕ → Ends
-widen ends key = record { least = lesser_of ends.least key; greatest = greater_of ends.greatest key }
+-- those of one key
+abbrev pub one_key : List ℕ → Ends
+one_key key = record { least = Some key; greatest = Some key }
 
+-- one more key
 abbrev pub widen_by : Ends → StoredPair → Ends
-widen_by ends pair = widen ends pair.key
+widen_by ends pair = record { least = lesser_of ends.least pair.key; greatest = greater_of ends.greatest pair.key }
 
 -- those of these pairs
 abbrev pub ends_of : List StoredPair → Ends

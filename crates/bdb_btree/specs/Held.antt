@@ -7,11 +7,13 @@ use Rattle.bdb_ranks.specs.of_form.Pairs.{PairOf, pairs_from}
 use Rattle.bdb_ranks.specs.of_layout.Seen.{leaf_item_seen}
 use Rattle.bdb_ranks.specs.of_overflow.Datum.{FitsContent}
 use Rattle.bdb_ranks.specs.of_overflow.Held.{FitsAny, value_held}
-use Rattle.bdb_btree.specs.Bounds.{Bounds, Ends}
+use Rattle.bdb_btree.specs.Bounds.{Bounds, Ends, greater_of, lesser_of}
 use Rattle.bdb_btree.specs.Pairs.{Each, left_of}
 use Rattle.bdb_btree.specs.Rows.{Passed}
 use Rattle.bdb_btree.specs.Runs.{KeyOrder, Ascent}
 use Rattle.bdb_btree.specs.declared.data_order.Ascent.{Ascent as CodeAscent}
+use Rattle.bdb_btree.specs.declared.ends.End.{End}
+use Rattle.bdb_btree.specs.declared.ends.End.TheVariants.{Least, Greatest}
 use Rattle.bdb_btree.specs.declared.ends.Ends.{Ends as CodeEnds}
 use Rattle.bdb_btree.specs.declared.held.HeldPair.{HeldPair}
 use Rattle.bdb_btree.specs.declared.order.KeyOrder.{KeyOrder as CodeKeyOrder}
@@ -87,6 +89,11 @@ bounds_seen file bounds = record {
   greatest = option_map (value_held file) bounds.ends.greatest;
   wrong = bounds.wrong;
 }
+
+-- the lesser of two values, or the greater one, as the end is
+abbrev pub end_of : End → Option (List ℕ) → List ℕ → Option (List ℕ)
+end_of Least = lesser_of
+end_of Greatest = greater_of
 
 abbrev pub ends_seen : File → CodeEnds → Ends
 ends_seen file ends = record { least = option_map (value_held file) ends.least; greatest = option_map (value_held file) ends.greatest }

@@ -1,12 +1,8 @@
 -- Values that ought to ascend, one after another: keys of pairs, and the live data of pairs that share a key.
-use Rattle.std.specs.Prelude.{ℕ, ◌&&◌, ◌||◌, not, if◌then◌else◌, Bool, false, List, Option, Some, None}
+use Rattle.std.specs.Prelude.{◌&&◌, ◌||◌, not, if◌then◌else◌, Bool, false, ℕ, List, Option, Some, None}
 use Rattle.std.specs.List.{fold}
-use Rattle.bdb_ranks.specs.of_format.Terms.{File, StoredPair, less, live_data}
-
--- a value isn't above the one before it, where there is one
-abbrev pub is_not_above : Option (List ℕ) → List ℕ → Bool
-is_not_above None value = false
-is_not_above (Some before) value = not (less before value)
+use Rattle.bdb_ranks.specs.Order.{is_not_above}
+use Rattle.bdb_ranks.specs.of_format.Terms.{File, StoredPair, live_data}
 
 -- the last value of a run, and whether some value wasn't above the one before it
 pub record Ascent : Type 0 where

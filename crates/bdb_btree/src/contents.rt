@@ -25,7 +25,8 @@ pub fn check(alloc: Global, linked: &Linked<'_>, meta: &BtreeMeta) -> Result<(),
     ensures refusal { IfErr result (IsFirstOf (database_faults (file_of linked.now) (BtreeFields meta.now))) }
 {
     let mut first = First::new();
-    let answer = note_alone(alloc, linked, meta, &mut first);
+    let mut known = Values::new(alloc, linked.forest());
+    let answer = note_contents(linked, meta, &mut known, &mut first);
     checked(first, answer)
 }
 
@@ -42,30 +43,14 @@ pub fn all_faults(
     requires stage { structure_faults (file_of linked.now) ≡ [] }
     ensures { OnOk result (NotesAll (HasNoted found.old) (HasNoted found.new) (database_faults (file_of linked.now) (BtreeFields meta.now))) }
 {
-    note_alone(alloc, linked, meta, found)
-}
-
-/// The same for any sink.
-fn note_alone<F: FaultSink>(
-    alloc: Global,
-    linked: &Linked<'_>,
-    meta: &BtreeMeta,
-    found: &mut F,
-) -> Result<(), AllocError>
-    requires meta { HasMetadata (file_of linked.now) (BtreeFields meta.now) }
-    requires keyed { is_recno meta.now ≡ false }
-    requires stage { structure_faults (file_of linked.now) ≡ [] }
-    ensures { OnOk result (NotesAll (F.has_noted found.old) (F.has_noted found.new) (database_faults (file_of linked.now) (BtreeFields meta.now))) }
-{
     let mut known = Values::new(alloc, linked.forest());
-    note_contents(alloc, linked, meta, &mut known, found)
+    note_contents(linked, meta, &mut known, found)
 }
 
 /// Notes each row on what a btree holds at each page where it holds, in any order and repeats allowed. What is found of chains
 /// that are shared is kept for other databases of the file. An error means that memory ran out: the sink's, or that for these
 /// chains.
 pub fn note_contents<'a, F: FaultSink>(
-    _alloc: Global,
     linked: &Linked<'a>,
     meta: &BtreeMeta,
     known: &mut Values<'a>,

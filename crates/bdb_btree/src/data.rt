@@ -9,19 +9,10 @@ use bdb_ranks::{Datum, Forest, LeafItem, SetValues, set_values, value_of};
 use std::marker::Model;
 
 /// The data of a data item that are left: one value, or those of a set off the page.
+#[derive(Drop)]
 pub(crate) struct ItemData<'a> {
     one: Option<Datum<'a>>,
     set: Option<SetValues<'a>>,
-}
-
-impl Drop for ItemData<'_> {
-    #[inline(always)]
-    fn drop(self) {
-        let ItemData {
-            one: _one,
-            set: _set,
-        } = self;
-    }
 }
 
 impl<'a> Model for ItemData<'a> {

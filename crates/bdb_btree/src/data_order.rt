@@ -10,7 +10,6 @@ ghost use Rattle.bdb_ranks.specs.of_format.Terms.{Tree, data_of, file_of, struct
 ghost use Rattle.bdb_ranks.specs.of_image.Linked.{FitsDupRoot};
 
 use crate::held::HeldPair;
-use crate::order::is_not_above;
 use bdb_ranks::{Held, LeafItem, Values, is_deleted, leaf_held, tree_entries};
 use std::alloc::AllocError;
 
@@ -31,7 +30,7 @@ impl<'a> Ascent<'a> {
         ensures fits { OnOk result (FitsAny (file_of known.old) self.new.last) }
         ensures same { known.new ≡ known.old }
     {
-        if is_not_above(known, self.last, value)? {
+        if known.is_not_above(self.last, value)? {
             self.broken = true;
         }
         self.last = Some(value);

@@ -3,57 +3,44 @@ ghost use Rattle.std.specs.Option.{option_map};
 ghost use Rattle.bdb_ranks.specs.of_format.Terms.{File, file_of, tree_pairs};
 ghost use Rattle.bdb_ranks.specs.of_image.Linked.{FitsLeafPage};
 ghost use Rattle.bdb_ranks.specs.of_overflow.Held.{FitsAny, FitsHeld, value_held};
-ghost use Rattle.bdb_btree.specs.Bounds.{DontFall, OrderedIf, ends_of, greater_of, joined, lesser_of, no_ends, widen};
-ghost use Rattle.bdb_btree.specs.Held.{FitsEnds, ends_seen};
+ghost use Rattle.bdb_btree.specs.Bounds.{DontFall, OrderedIf, ends_of, joined, no_ends, one_key};
+ghost use Rattle.bdb_btree.specs.Held.{FitsEnds, end_of, ends_seen};
 
 use crate::held::page_items;
-use crate::order::is_less;
 use crate::pair::key_at;
 use bdb_ranks::{Forest, Held, PageView, Values, leaf_held};
 use std::alloc::AllocError;
 
-/// The lesser of two values, the first of which may be missing. An error means that memory ran out, for chains that are shared.
-fn lesser_of<'a>(
-    known: &mut Values<'a>,
-    least: Option<Held<'a>>,
-    value: Held<'a>,
-) -> Result<Held<'a>, AllocError>
-    requires least { FitsAny (file_of known.old) least }
-    requires value { FitsHeld (file_of known.old) value }
-    ensures lesser { IfOk result (λ lesser. Some (value_held (file_of known.old) lesser)
-        ≡ lesser_of (option_map (value_held (file_of known.old)) least.entry) (value_held (file_of known.old) value.entry)) }
-    ensures fits { IfOk result (FitsHeld (file_of known.old)) }
-    ensures same { known.new ≡ known.old }
-{
-    match least {
-        Some(least) => {
-            let is_lesser = is_less(known, value, least)?;
-            Ok(if is_lesser { value } else { least })
-        }
-        None => Ok(value),
-    }
+/// An end of some values: the least of them, or the greatest.
+#[derive(Clone, Copy)]
+enum End {
+    Least,
+    Greatest,
 }
 
-/// The greater of them.
-fn greater_of<'a>(
+/// The lesser of two values, or the greater one, as the end is. The first may be missing. An error means that memory ran out, for chains that
+/// are shared.
+fn end_of<'a>(
     known: &mut Values<'a>,
-    greatest: Option<Held<'a>>,
+    end: End,
+    bound: Option<Held<'a>>,
     value: Held<'a>,
 ) -> Result<Held<'a>, AllocError>
-    requires greatest { FitsAny (file_of known.old) greatest }
+    requires bound { FitsAny (file_of known.old) bound }
     requires value { FitsHeld (file_of known.old) value }
-    ensures greater { IfOk result (λ greater. Some (value_held (file_of known.old) greater)
-        ≡ greater_of (option_map (value_held (file_of known.old)) greatest.entry) (value_held (file_of known.old) value.entry)) }
+    ensures end { IfOk result (λ found. Some (value_held (file_of known.old) found)
+        ≡ end_of end (option_map (value_held (file_of known.old)) bound.entry) (value_held (file_of known.old) value.entry)) }
     ensures fits { IfOk result (FitsHeld (file_of known.old)) }
     ensures same { known.new ≡ known.old }
 {
-    match greatest {
-        Some(greatest) => {
-            let is_greater = is_less(known, greatest, value)?;
-            Ok(if is_greater { value } else { greatest })
-        }
-        None => Ok(value),
-    }
+    let Some(bound) = bound else {
+        return Ok(value);
+    };
+    let is_past = match end {
+        End::Least => known.is_less(value, bound)?,
+        End::Greatest => known.is_less(bound, value)?,
+    };
+    Ok(if is_past { value } else { bound })
 }
 
 /// The least and the greatest of some keys, if there are any.
@@ -75,18 +62,15 @@ impl<'a> Ends<'a> {
         }
     }
 
-    /// One more key. An error means that memory ran out.
-    fn see_key(&mut self, known: &mut Values<'a>, key: Held<'a>) -> Result<(), AllocError>
-        requires ends { FitsEnds (file_of known.old) self.old }
-        requires key { FitsHeld (file_of known.old) key }
-        ensures ends { OnOk result (ends_seen (file_of known.old) self.new
-            ≡ widen (ends_seen (file_of known.old) self.old) (value_held (file_of known.old) key.entry)) }
-        ensures fits { OnOk result (FitsEnds (file_of known.old) self.new) }
-        ensures same { known.new ≡ known.old }
+    /// Those of one key.
+    fn of(key: Held<'a>) -> Ends<'a>
+        ensures one { (file : File) → ends_seen file result ≡ one_key (value_held file key.entry) }
+        ensures fits { (file : File) → FitsHeld file key.entry → FitsEnds file result }
     {
-        self.least = Some(lesser_of(known, self.least, key)?);
-        self.greatest = Some(greater_of(known, self.greatest, key)?);
-        Ok(())
+        Ends {
+            least: Some(key),
+            greatest: Some(key),
+        }
     }
 
     /// More keys, by their ends. An error means that memory ran out.
@@ -99,10 +83,10 @@ impl<'a> Ends<'a> {
         ensures same { known.new ≡ known.old }
     {
         if let Some(least) = more.least {
-            self.least = Some(lesser_of(known, self.least, least)?);
+            self.least = Some(end_of(known, End::Least, self.least, least)?);
         }
         if let Some(greatest) = more.greatest {
-            self.greatest = Some(greater_of(known, self.greatest, greatest)?);
+            self.greatest = Some(end_of(known, End::Greatest, self.greatest, greatest)?);
         }
         Ok(())
     }
@@ -145,7 +129,7 @@ fn compared_ends<'a>(known: &mut Values<'a>, leaf: u32) -> Result<Ends<'a>, Allo
     };
     let mut ends = Ends::new();
     for pair in pairs {
-        ends.see_key(known, leaf_held(&pair.key))?;
+        ends.join(known, Ends::of(leaf_held(&pair.key)))?;
     }
     Ok(ends)
 }

@@ -12,19 +12,10 @@ use bdb_ranks::{Datum, Forest, KeyView, LeafItem};
 use std::marker::Model;
 
 /// The data of one pair that are left, each with the pair's key.
+#[derive(Drop)]
 pub struct Entries<'a> {
     key: Datum<'a>,
     values: ItemData<'a>,
-}
-
-impl Drop for Entries<'_> {
-    #[inline(always)]
-    fn drop(self) {
-        let Entries {
-            key: _key,
-            values: _values,
-        } = self;
-    }
 }
 
 impl<'a> Model for Entries<'a> {
@@ -94,20 +85,11 @@ fn entry_on_page<'a>(pair: &Pair<'a>) -> Option<(KeyView<'a>, Datum<'a>)>
 }
 
 /// The list of a btree that is left: its live pairs from left to right, each key with each of its data.
+#[derive(Drop)]
 pub struct Scan<'a> {
     forest: Forest<'a>,
     here: Option<Entries<'a>>,
     pairs: Pairs<'a>,
-}
-
-impl Drop for Scan<'_> {
-    fn drop(self) {
-        let Scan {
-            forest: _forest,
-            here: _here,
-            pairs: _pairs,
-        } = self;
-    }
 }
 
 impl<'a> Model for Scan<'a> {

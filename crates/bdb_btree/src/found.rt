@@ -49,22 +49,12 @@ fn next_datum<'a>(here: &mut Option<ItemData<'a>>) -> Option<Datum<'a>>
 }
 
 /// The data of a key that are left, in order.
+#[derive(Drop)]
 pub struct Found<'a> {
     forest: Forest<'a>,
     key: Datum<'a>,
     here: Option<ItemData<'a>>,
     pairs: Option<PagePairs<'a>>,
-}
-
-impl Drop for Found<'_> {
-    fn drop(self) {
-        let Found {
-            forest: _forest,
-            key: _key,
-            here: _here,
-            pairs: _pairs,
-        } = self;
-    }
 }
 
 impl<'a> Model for Found<'a> {

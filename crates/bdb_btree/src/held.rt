@@ -83,20 +83,11 @@ fn next_pair<'a>(pairs: &mut Option<PageItems<'a>>) -> Option<HeldPair<'a>>
 }
 
 /// The pairs of a tree that are left, from left to right.
+#[derive(Drop)]
 pub struct HeldPairs<'a> {
     forest: Forest<'a>,
     here: Option<PageItems<'a>>,
     leaves: Leaves<'a>,
-}
-
-impl Drop for HeldPairs<'_> {
-    fn drop(self) {
-        let HeldPairs {
-            forest: _forest,
-            here: _here,
-            leaves: _leaves,
-        } = self;
-    }
 }
 
 impl<'a> Model for HeldPairs<'a> {

@@ -13,7 +13,6 @@ ghost use Rattle.bdb_faults.specs.Notes.{NotesAll};
 
 use crate::ends::{Ends, leaf_ends};
 use crate::inner::inner_view;
-use crate::order::{is_less, is_not_above};
 use bdb_faults::{FaultSink, note_if};
 use bdb_ranks::{ContentsRow, Held, InternalItem, Row, Values, key_held};
 use std::alloc::AllocError;
@@ -30,7 +29,7 @@ fn is_below(
     ensures same { known.new ≡ known.old }
 {
     match bound {
-        Some(bound) => is_less(known, value, bound),
+        Some(bound) => known.is_less(value, bound),
         None => Ok(false),
     }
 }
@@ -68,8 +67,8 @@ impl<'a> Bounds<'a> {
         ensures fits { OnOk result (FitsBounds (file_of known.old) self.new) }
         ensures same { known.new ≡ known.old }
     {
-        if is_not_above(known, self.separator, key)?
-            || is_not_above(known, self.ends.greatest, key)?
+        if known.is_not_above(self.separator, key)?
+            || known.is_not_above(self.ends.greatest, key)?
         {
             self.wrong = true;
         }

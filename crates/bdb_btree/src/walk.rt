@@ -11,21 +11,11 @@ use bdb_ranks::{Forest, LeafKind, Leaves, PageView, tree_leaves};
 use std::marker::Model;
 
 /// The pairs of one leaf that are left, in order.
+#[derive(Drop)]
 pub struct PagePairs<'a> {
     forest: Forest<'a>,
     page: u32,
     pairs: bdb_ranks::PagePairs<'a, LeafKind>,
-}
-
-impl Drop for PagePairs<'_> {
-    #[inline(always)]
-    fn drop(self) {
-        let PagePairs {
-            forest: _forest,
-            page: _page,
-            pairs: _pairs,
-        } = self;
-    }
 }
 
 impl<'a> Model for PagePairs<'a> {
@@ -81,20 +71,11 @@ pub fn next_pair<'a>(pairs: &mut Option<PagePairs<'a>>) -> Option<Pair<'a>>
 }
 
 /// The pairs of a tree that are left, from left to right.
+#[derive(Drop)]
 pub(crate) struct Pairs<'a> {
     forest: Forest<'a>,
     here: Option<PagePairs<'a>>,
     leaves: Leaves<'a>,
-}
-
-impl Drop for Pairs<'_> {
-    fn drop(self) {
-        let Pairs {
-            forest: _forest,
-            here: _here,
-            leaves: _leaves,
-        } = self;
-    }
 }
 
 impl<'a> Model for Pairs<'a> {

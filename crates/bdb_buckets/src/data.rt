@@ -32,14 +32,9 @@ impl<'a> Rest<'a> {
 
 /// The data of a pair that are left, in the order in which they stand: its one value, the blocks of its
 /// set, or the live entries of its tree of duplicates.
+#[derive(Drop)]
 pub struct Data<'a> {
     rest: Rest<'a>,
-}
-
-impl Drop for Data<'_> {
-    fn drop(self) {
-        let Data { rest: _rest } = self;
-    }
 }
 
 impl<'a> Model for Data<'a> {

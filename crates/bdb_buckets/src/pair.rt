@@ -16,6 +16,7 @@ use bdb_tree::{Datum, Forest, HashItem, Held, is_same, is_wrong_root, prefix};
 use std::marker::Model;
 
 /// A pair of a hash page, with its key.
+#[derive(Drop)]
 pub struct Pair<'a> {
     forest: Forest<'a>,
     page: u32,
@@ -24,20 +25,6 @@ pub struct Pair<'a> {
     head: Option<u32>,
     key: Datum<'a>,
     item: HashItem<'a>,
-}
-
-impl Drop for Pair<'_> {
-    #[inline(always)]
-    fn drop(self) {
-        let Pair {
-            forest: _forest,
-            page: _page,
-            index: _index,
-            head: _head,
-            key: _key,
-            item: _item,
-        } = self;
-    }
 }
 
 impl<'a> Model for Pair<'a> {

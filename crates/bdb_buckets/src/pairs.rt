@@ -10,20 +10,11 @@ use bdb_tree::{Forest, HashKind, PageView};
 use std::marker::Model;
 
 /// The pairs that are left on a page of a bucket; none where it's a zero page.
+#[derive(Drop)]
 pub struct PagePairs<'a> {
     forest: Forest<'a>,
     page: u32,
     pairs: Option<bdb_tree::PagePairs<'a, HashKind>>,
-}
-
-impl Drop for PagePairs<'_> {
-    fn drop(self) {
-        let PagePairs {
-            forest: _forest,
-            page: _page,
-            pairs: _pairs,
-        } = self;
-    }
 }
 
 impl<'a> Model for PagePairs<'a> {

@@ -32,7 +32,7 @@ fn note_database<'a, F: FaultSink>(
     ensures chains { chains.new ≡ chains.old }
 {
     match meta {
-        Meta::Btree(meta) if !meta.is_recno() => note_btree(alloc, linked, meta, known, found),
+        Meta::Btree(meta) if !meta.is_recno() => note_btree(linked, meta, known, found),
         Meta::Btree(meta) => note_recno(linked, meta, found),
         Meta::Hash(meta) => note_hash(alloc, linked, meta, chains, found),
         Meta::Queue(_) => Ok(()),
@@ -106,25 +106,6 @@ fn note_unordered<'a, F: FaultSink + Drop>(
     Ok(found)
 }
 
-/// Notes all faults of stage 8.
-fn note_all<'a, F: FaultSink + Drop>(
-    alloc: Global,
-    linked: &Linked<'a>,
-    known: &mut Values<'a>,
-    chains: &mut Chains<'a>,
-    found: F,
-) -> Result<F, AllocError>
-    requires stage { structure_faults (file_of linked.now) ≡ [] }
-    requires known { known.old ≡ linked.now }
-    requires chains { chains.old ≡ linked.now }
-    requires begun { F.has_noted found [] }
-    ensures { IfOk result (λ found. HasJust (F.has_noted found) (contents_by All (file_of linked.now))) }
-{
-    let mut found = found;
-    note_databases(alloc, linked, Which::Each, known, chains, &mut found)?;
-    Ok(found)
-}
-
 /// Notes the faults of stage 8 that count: what the databases hold and breaks their rules. What is found of chains that are shared
 /// is kept for all databases. An error means that memory ran out.
 pub(crate) fn note_contents<F: FaultSink + Drop>(
@@ -140,7 +121,18 @@ pub(crate) fn note_contents<F: FaultSink + Drop>(
     let mut known = Values::new(alloc, linked.forest());
     let mut chains = Chains::new(alloc, linked.forest());
     match rows {
-        Rows::All => note_all(alloc, linked, &mut known, &mut chains, found),
+        Rows::All => {
+            let mut found = found;
+            note_databases(
+                alloc,
+                linked,
+                Which::Each,
+                &mut known,
+                &mut chains,
+                &mut found,
+            )?;
+            Ok(found)
+        }
         Rows::AnyOrder => note_unordered(alloc, linked, &mut known, &mut chains, found),
     }
 }

@@ -35,13 +35,7 @@ fn is_of_order(row: Row) -> bool
 {
     match row {
         Row::Contents(row) => tells_order(row),
-        Row::File(_)
-        | Row::Form(_)
-        | Row::Reference(_)
-        | Row::Ownership(_)
-        | Row::Reach(_)
-        | Row::Structure(_)
-        | Row::Master(_) => false,
+        _ => false,
     }
 }
 

@@ -39,6 +39,7 @@ use Rattle.bdb_apart.proofs.of_rescue.LooseLemmas.{leaf_values}
 use Rattle.bdb_apart.proofs.of_rescue.StoredLemmas.{stored_on_is}
 use Rattle.bdb_apart.proofs.of_survey.StoredPageLemmas.{count_is, page_is, page_past}
 use Rattle.bdb_damage.specs.Tallies.{set_size}
+use Rattle.bdb_apart.proofs.of_format.MemberLemmas.{few_pass}
 
 -- Sets on a page.
 
@@ -287,21 +288,13 @@ stored_few reading p legal small =
 
 -- All pages.
 
-fewer_pass : {X : Type 0} (test : X → Bool) (xs : List X) → length (filter test xs) ≤ length xs
-fewer_pass test [] = omega arith
-fewer_pass {X = X} test (x ∷ xs) = by_test (test x) (fewer_pass test xs)
-  where
-    by_test : (b : Bool) → length (filter test xs) ≤ length xs → length (cond b (x ∷ filter test xs) (filter test xs)) ≤ suc (length xs)
-    by_test true few = omega (arith, few)
-    by_test false few = omega (arith, few)
-
 -- the pages of a row are pages of the image
 pub row_few : (reading : Reading) (m : ℕ) → length (row_in reading m) ≤ (file_in reading).count
 row_few reading m =
     let all : List (Option ℕ) = map (above (file_in reading)) (range_with_len 0 (file_in reading).count) in
     omega (
       arith,
-      fewer_pass (is_below all m) (range_with_len 0 (length all - 0)),
+      few_pass (is_below all m) (range_with_len 0 (length all - 0)),
       length-range_with_len 0 (length all - 0),
       length-map (range_with_len 0 (file_in reading).count) (above (file_in reading)),
       length-range_with_len 0 (file_in reading).count,
@@ -316,7 +309,7 @@ left_short reading p legal small =
     by_given : (b : Bool) (test : (List ℕ × List ℕ) → Bool) → length (stored_on (file_in reading) p) ≤ 4398046511104
         → length (cond b [] (filter test (stored_on (file_in reading) p))) ≤ 4398046511104
     by_given true test few = omega arith
-    by_given false test few = omega (arith, fewer_pass test (stored_on (file_in reading) p), few)
+    by_given false test few = omega (arith, few_pass test (stored_on (file_in reading) p), few)
 
 -- so many pairs are left at most
 pub left_few : (reading : Reading) (n : ℕ) → IsLegal reading → IsSmall reading → n ≤ 2 ^ 21

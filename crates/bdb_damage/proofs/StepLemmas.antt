@@ -5,7 +5,7 @@ use Rattle.std.proofs.Common.{length-append}
 use Rattle.std.specs.Prelude.{get_or}
 use Rattle.std.specs.List.{count_by, flat_map, range_with_len, sum_by}
 use Rattle.std.proofs.lemmas.List.Sums.{sum_by-append, sum_by-cons, sum_by_more, sum_by_more_le}
-use Rattle.bdb_apart.proofs.of_format.ListLemmas.{range_zero_more}
+use Rattle.bdb_apart.proofs.of_format.ListLemmas.{sum_last}
 
 -- Slices.
 
@@ -19,14 +19,11 @@ slice_most f xs i n d there is = subst (λ m. sum_by f (take i xs) + m ≤ sum_b
 
 -- Ranges.
 
-pub range_more : (f : ℕ → ℕ) (n : ℕ) → sum_by f (range_with_len 0 (n + 1)) ≡ sum_by f (range_with_len 0 n) + f n
-range_more f n = omega (arith, ap (sum_by f) (range_zero_more n), sum_by-append f (range_with_len 0 n) (n ∷ []), sum_by-cons f n [])
-
 pub range_most : (f : ℕ → ℕ) (n m : ℕ) → sum_by f (range_with_len 0 n) ≤ sum_by f (range_with_len 0 (n + m))
 range_most f n zero = subst (λ k. sum_by f (range_with_len 0 n) ≤ sum_by f (range_with_len 0 k)) (let same : n ≡ n + 0 = omega arith in same) (omega arith)
 range_most f n (suc m) =
     subst (λ k. sum_by f (range_with_len 0 n) ≤ sum_by f (range_with_len 0 k)) (let same : n + m + 1 ≡ n + suc m = omega arith in same)
-    (omega (arith, range_most f n m, range_more f (n + m)))
+    (omega (arith, range_most f n m, sum_last f (n + m)))
 
 -- What an iterator gives.
 

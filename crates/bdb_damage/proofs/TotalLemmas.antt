@@ -24,7 +24,7 @@ use Rattle.bdb_apart.specs.Given.{names_found, numbered_entry}
 use Rattle.bdb_apart.specs.Given.{pairs_given, pairs_left, pairs_left_on, records_given, records_left, records_left_on}
 use Rattle.bdb_apart.specs.Kept.{IsKnown, fits_in, holds_in, holds_of, row_in}
 use Rattle.bdb_apart.specs.Left.{fit_on, pairs_on, start_of}
-use Rattle.bdb_apart.specs.Queues.{bytes_at, is_queue_page, queue_records, queue_records_on, queue_slot, slots_from}
+use Rattle.bdb_apart.specs.Queues.{bytes_at, is_queue_page, queue_records, queue_records_on, queue_slot, queue_slots_from}
 use Rattle.bdb_apart.specs.Rows.{is_some_of, row_from}
 use Rattle.bdb_apart.specs.Slots.{HasSlots}
 use Rattle.bdb_apart.specs.declared.holds.Holds.{Holds}
@@ -218,7 +218,7 @@ queue_page_short : (reading : Reading) (meta : QueueMeta) (p : ℕ) → HasSlots
 queue_page_short reading meta p room legal =
     by_page (is_queue_page reading.guess.order p (bytes_at reading p)) (drop 28 (bytes_at reading p))
   where
-    by_page : (b : Bool) (records : List ℕ) → length (cond b (slots_from meta p records 0) []) ≤ 32768
+    by_page : (b : Bool) (records : List ℕ) → length (cond b (queue_slots_from meta p records 0) []) ≤ 32768
     by_page true records =
         omega (
           arith,

@@ -34,14 +34,9 @@ impl<'a> Entries<'a> {
 }
 
 /// The list of a database that is left, in its order: each key with each of its data.
+#[derive(Drop)]
 pub struct Scan<'a> {
     entries: Entries<'a>,
-}
-
-impl Drop for Scan<'_> {
-    fn drop(self) {
-        let Scan { entries: _entries } = self;
-    }
 }
 
 impl<'a> Model for Scan<'a> {

@@ -39,14 +39,9 @@ impl<'a> Data<'a> {
 }
 
 /// The data of a key that are left, in order.
+#[derive(Drop)]
 pub struct Found<'a> {
     data: Data<'a>,
-}
-
-impl Drop for Found<'_> {
-    fn drop(self) {
-        let Found { data: _data } = self;
-    }
 }
 
 impl<'a> Model for Found<'a> {

@@ -13,18 +13,10 @@ use std::marker::Model;
 
 /// A file whose databases can be read, whatever order its keys and data stand in: no row that counts in any order holds on it. Its
 /// databases are those that its master names, in the order of the master's list, or the one on page 0, which has no name.
+#[derive(Drop)]
 pub struct Readable<'a> {
     linked: Linked<'a>,
     databases: Vec<NamedMeta>,
-}
-
-impl Drop for Readable<'_> {
-    fn drop(self) {
-        let Readable {
-            linked: _linked,
-            databases: _databases,
-        } = self;
-    }
 }
 
 impl<'a> Model for Readable<'a> {

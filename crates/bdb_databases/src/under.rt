@@ -85,18 +85,10 @@ pub(crate) fn key_sought(alloc: Global, has_records: bool, key: &[u8]) -> Result
 }
 
 /// The data under a key that are left in a list, whatever order that stands in.
+#[derive(Drop)]
 pub(crate) struct Under<'a> {
     list: Scan<'a>,
     key: Sought,
-}
-
-impl Drop for Under<'_> {
-    fn drop(self) {
-        let Under {
-            list: _list,
-            key: _key,
-        } = self;
-    }
 }
 
 impl<'a> Model for Under<'a> {

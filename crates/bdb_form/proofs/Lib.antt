@@ -1,6 +1,7 @@
 mod Below
 pub mod EndLemmas
 pub mod FormedLemmas
+pub mod SeenLemmas
 pub mod SlotLemmas
 pub mod WalkLemmas
 pub mod ZeroLemmas

@@ -12,7 +12,7 @@ use crate::{
     EntryLeafKind, FreeView, HashKind, IndexedView, InternalKind, LeafKind, MetaView, OverflowView,
     PageView, QueueView, RecnoInternalKind, Records, SortedData, ZeroView,
 };
-use bdb_layout::{FormRow, Order, PageType, page_type, u16_at, u32_at};
+use bdb_layout::{FormRow, Order, PageBytes, PageType, page_type, u16_at, u32_at};
 
 /// A page above 0 of a btree or hash file as the view of its type, or the code of the first row of form
 /// that holds for it. Of a metadata page only the number is looked at: its rows are those of `bdb_meta`.
@@ -94,7 +94,7 @@ pub fn known_queue_form(page: &[u8], number: u32, order: Order) -> PageView<'_>
     if is_zero_at(page, number, order) {
         return PageView::Zero(ZeroView);
     }
-    PageView::Queue(QueueView::over(page, order))
+    PageView::Queue(QueueView::over(PageBytes { bytes: page, order }))
 }
 
 /// Whether a page for which no row of form holds is a zero page. Any other tells its own number, so that page 0 alone is
@@ -205,14 +205,17 @@ fn known_type(page: &[u8], order: Order) -> PageView<'_>
     ensures header { header_seen result ≡ header_of order page.now }
 {
     match page_type(page) {
-        PageType::Free => PageView::Free(FreeView::over(page, order)),
+        PageType::Free => PageView::Free(FreeView::over(PageBytes { bytes: page, order })),
         PageType::Internal => PageView::Internal(IndexedView::over(page, order)),
         PageType::RecnoInternal => PageView::RecnoInternal(IndexedView::over(page, order)),
         PageType::Leaf => PageView::Leaf(IndexedView::over(page, order)),
         PageType::RecnoLeaf => PageView::RecnoLeaf(IndexedView::over(page, order)),
         PageType::DupLeaf => PageView::DupLeaf(IndexedView::over(page, order)),
         PageType::Hash => PageView::Hash(IndexedView::over(page, order)),
-        PageType::Overflow => PageView::Overflow(OverflowView::over(page, order)),
+        PageType::Overflow => PageView::Overflow(OverflowView::over(PageBytes {
+            bytes: page,
+            order,
+        })),
         PageType::HashMeta | PageType::BtreeMeta => PageView::Meta(MetaView::over(page, order)),
         PageType::QueueMeta | PageType::Queue | PageType::Other => unreachable!(),
     }

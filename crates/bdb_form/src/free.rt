@@ -1,14 +1,13 @@
 ghost use Rattle.std.specs.Prelude.{◌≡◌, ◌≤◌, length};
 ghost use Rattle.bdb_layout.specs.of_format.Terms.{header_of};
 
-use bdb_layout::{Header, Order, header, u32_at};
+use bdb_layout::{Header, PageBytes};
 use std::marker::Model;
 
 /// A free page: its header, whose next names the next free page.
 #[derive(Drop)]
 pub struct FreeView<'a> {
-    page: &'a [u8],
-    order: Order,
+    page: PageBytes<'a>,
 }
 
 impl<'a> Model for FreeView<'a> {
@@ -18,31 +17,31 @@ impl<'a> Model for FreeView<'a> {
 
     ghost Value = { Header };
 
-    ghost view = { λ v. header_of v.order v.page.now };
+    ghost view = { λ v. header_of v.page.order v.page.bytes.now };
 
-    ghost invariant = { λ v. HasHeader v.page.now };
+    ghost invariant = { λ v. HasHeader v.page.bytes.now };
 }
 
 impl<'a> FreeView<'a> {
-    pub(crate) fn over(page: &'a [u8], order: Order) -> FreeView<'a>
-        requires header { 26 ≤ length page.now }
-        requires size { length page.now ≤ 32768 }
-        ensures { result ≡ header_of order page.now }
+    pub(crate) fn over(page: PageBytes<'a>) -> FreeView<'a>
+        requires header { 26 ≤ length page.bytes.now }
+        requires size { length page.bytes.now ≤ 32768 }
+        ensures { result ≡ header_of page.entry.order page.entry.bytes.now }
     {
-        FreeView { page, order }
+        FreeView { page }
     }
 
     /// The fields of the page's header.
     pub fn header(&self) -> Header
         ensures { result ≡ self.now }
     {
-        header(self.page, self.order)
+        self.page.header()
     }
 
     /// The page after it, 0 for none.
     pub fn next(&self) -> u32
         ensures { result ≡ self.now.next }
     {
-        u32_at(self.page, 16, self.order)
+        self.page.u32_at(16)
     }
 }

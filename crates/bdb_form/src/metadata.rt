@@ -2,14 +2,13 @@ ghost use Rattle.std.specs.Prelude.{◌≡◌, ◌≤◌, length};
 ghost use Rattle.bdb_form.specs.Formed.{fields_as};
 ghost use Rattle.bdb_layout.specs.of_format.Terms.{byte_at, header_of, page_type};
 
-use bdb_layout::{Header, Order, header};
+use bdb_layout::{Header, Order, PageBytes};
 use std::marker::Model;
 
 /// A metadata page. Its fields are read by `bdb_meta`.
 #[derive(Drop)]
 pub struct MetaView<'a> {
-    page: &'a [u8],
-    order: Order,
+    page: PageBytes<'a>,
 }
 
 impl<'a> Model for MetaView<'a> {
@@ -18,9 +17,13 @@ impl<'a> Model for MetaView<'a> {
 
     ghost Value = { MetaPage };
 
-    ghost view = { λ v. record { header = header_of v.order v.page.now; fields = fields_as v.order v.page.now (page_type (byte_at v.page.now 25)) } };
+    ghost view = { λ v. record {
+      header = header_of v.page.order v.page.bytes.now;
+      fields = fields_as v.page.order v.page.bytes.now
+          (page_type (byte_at v.page.bytes.now 25));
+    } };
 
-    ghost invariant = { λ v. HasHeader v.page.now };
+    ghost invariant = { λ v. HasHeader v.page.bytes.now };
 }
 
 impl<'a> MetaView<'a> {
@@ -30,13 +33,15 @@ impl<'a> MetaView<'a> {
         requires size { length page.now ≤ 32768 }
         ensures { result ≡ record { header = header_of order page.now; fields = fields_as order page.now (page_type (byte_at page.now 25)) } }
     {
-        MetaView { page, order }
+        MetaView {
+            page: PageBytes { bytes: page, order },
+        }
     }
 
     /// Bytes 0 to 25 read as a header.
     pub fn header(&self) -> Header
         ensures { result ≡ self.now.header }
     {
-        header(self.page, self.order)
+        self.page.header()
     }
 }

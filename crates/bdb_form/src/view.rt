@@ -1,6 +1,6 @@
 ghost use Rattle.std.specs.Prelude.{◌≡◌};
-ghost use Rattle.bdb_form.specs.Seen.{header_seen};
-ghost use Rattle.bdb_layout.specs.of_format.Terms.{no_header};
+ghost use Rattle.bdb_form.specs.Seen.{header_seen, page_seen};
+ghost use Rattle.bdb_layout.specs.of_format.Terms.{header_in, no_header};
 
 use crate::{
     DupLeafView, FreeView, HashView, InternalView, LeafView, MetaView, OverflowView, QueueView,
@@ -42,6 +42,18 @@ impl<'a> PageView<'a> {
             PageView::Hash(view) => view.header(),
             PageView::Overflow(view) => view.header(),
             PageView::Queue(view) => view.header(),
+        }
+    }
+
+    /// The header of a page that has one; of metadata and pages of a queue all fields are 0.
+    #[tactic(auto, using(crate::proofs::SeenLemmas::seen_header))]
+    pub fn own_header(&self) -> Header
+        ensures { result ≡ header_in (page_seen self.now) }
+    {
+        match self {
+            PageView::Meta(_) => no_header(),
+            PageView::Queue(_) => no_header(),
+            _ => self.header(),
         }
     }
 }

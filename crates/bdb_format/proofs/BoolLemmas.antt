@@ -16,3 +16,7 @@ first_or_none a b none passed = grind arith
 -- a test, or true
 pub cond_or : (a b : Bool) → cond a true b ≡ (a || b)
 cond_or a b = grind arith
+
+-- where the first isn't without the second, and is, the second is
+pub so_second : (a b : Bool) → (a && not b) ≡ false → a ≡ true → b ≡ true
+so_second a b none is = grind arith

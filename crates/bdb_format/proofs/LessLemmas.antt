@@ -1,5 +1,5 @@
 -- The order of numbers and of keys is strict and total, and a test tells equal ones.
-use Rattle.std.proofs.Common.{is_eq, nat_cmp, ◌≡◌, ℕ, List, [], ◌∷◌, refl, arith, le-ltb, eq-eqb, false, true}
+use Rattle.std.proofs.Common.{is_eq, nat_cmp, ◌≡◌, ℕ, List, [], ◌∷◌, refl, sym, ◌∙◌, ap, arith, le-ltb, eq-eqb, false, true}
 use Rattle.std.proofs.lemmas.Bool.{cases_order, false_from_ne_true}
 use Rattle.std.proofs.lemmas.Bool.Decides.{nat_tests}
 use Rattle.std.proofs.lemmas.Slice.Eq.{bytes_eq-Decides}
@@ -52,3 +52,9 @@ eq_self a = (bytes_eq-Decides a a).1 refl
 
 pub eq_same : (a b : List ℕ) → bytes_eq a b ≡ true → a ≡ b
 eq_same a b is = (bytes_eq-Decides a b).0 is
+
+-- bytes that differ, the other way round
+pub differ_back : (a b : List ℕ) → bytes_eq a b ≡ false → bytes_eq b a ≡ false
+differ_back a b differ =
+    false_from_ne_true (bytes_eq b a)
+    (λ back. let same : b ≡ a = eq_same b a back in absurd (cc (sym differ ∙ (ap (bytes_eq a) same ∙ eq_self a))))

@@ -1,11 +1,12 @@
 -- Laws that several crates use.
 use Rattle.std.proofs.Common.{◌≡◌, Bool, true, List, [], ◌∷◌, inl, inr, ◌∙◌, ap, ℕ, suc, ◌<◌, false, length, map, get_or, arith, refl, ◌+◌, subst, ◌++◌, zero}
-use Rattle.std.specs.List.{Contains, list_any, enumerate_from, flat_map, All, slice_get, range_with_len}
+use Rattle.std.specs.List.{Contains, list_any, enumerate_from, flat_map, All, slice_get, range_with_len, sum_by}
 use Rattle.std.proofs.lemmas.Bool.{or_cases, or_from}
 use Rattle.bdb_format.proofs.MemberLemmas.{first_member, later_member, member_cases, no_member}
 use Rattle.std.proofs.lemmas.List.Folds.{list_any_at}
 use Rattle.std.proofs.lemmas.Grind.{flat_map-append}
 use Rattle.std.proofs.lemmas.List.{map-append}
+use Rattle.std.proofs.lemmas.List.Sums.{sum_by-append, sum_by-cons}
 use Rattle.std.specs.Prelude.{get_or, Some}
 use Rattle.std.proofs.lemmas.List.Elements.{Contains-get_or}
 use Rattle.std.proofs.lemmas.Option.{get_or_from_slice_get, slice_get_within}
@@ -84,3 +85,7 @@ range_parts a (suc m) n =
     let e : (a + 1) + m ≡ a + suc m = omega arith in
     let f : suc m + n ≡ suc (m + n) = omega arith in
     ap (range_with_len a) f ∙ ap (λ xs. a ∷ xs) (range_parts (a + 1) m n ∙ ap (λ b. range_with_len (a + 1) m ++ range_with_len b n) e)
+
+-- the last term of a sum over a range
+pub sum_last : (f : ℕ → ℕ) (n : ℕ) → sum_by f (range_with_len 0 (n + 1)) ≡ sum_by f (range_with_len 0 n) + f n
+sum_last f n = omega (arith, ap (sum_by f) (range_zero_more n), sum_by-append f (range_with_len 0 n) (n ∷ []), sum_by-cons f n [])

@@ -122,3 +122,24 @@ pub none_pass : {X : Type 0} (test : X → Bool) (xs : List X) → ((x : X) → 
 none_pass test [] none = refl
 none_pass test (x ∷ xs) none =
     or_from (test x) (list_any test xs) (none x (first_member x xs)) (none_pass test xs (λ y at. none y (later_member x xs y at)))
+
+-- where all pass, a filter keeps the list
+pub all_pass : {X : Type 0} (test : X → Bool) (xs : List X) → ((x : X) → Contains xs x → test x ≡ true) → filter test xs ≡ xs
+all_pass test [] all = refl
+all_pass test (x ∷ xs) all =
+    ap (λ b. cond b (x ∷ filter test xs) (filter test xs)) (all x (first_member x xs))
+    ∙ ap (λ ys. x ∷ ys) (all_pass test xs (λ y at. all y (later_member x xs y at)))
+
+-- no more pass than there are
+pub few_pass : {X : Type 0} (test : X → Bool) (xs : List X) → length (filter test xs) ≤ length xs
+few_pass test [] = omega arith
+few_pass test (x ∷ xs) = by_test (test x) (few_pass test xs)
+  where
+    by_test : (b : Bool) → length (filter test xs) ≤ length xs → length (cond b (x ∷ filter test xs) (filter test xs)) ≤ length (x ∷ xs)
+    by_test true rest = omega (arith, rest)
+    by_test false rest = omega (arith, rest)
+
+-- lists without a member, one after another
+pub nothing_joined : {X Y : Type 0} (f : X → List Y) (xs : List X) → ((x : X) → Contains xs x → f x ≡ []) → flat_map f xs ≡ []
+nothing_joined f xs none =
+    is_empty (flat_map f xs) (λ y at. let found = of_flat_map f xs y at in no_member (f found.0) y (none found.0 found.1) found.2)

@@ -60,7 +60,7 @@ pub not_in : (x : ℕ) (xs : List ℕ) → (Contains xs x → ⊥) → NotIn x x
 not_in x [] none = tt
 not_in x (y ∷ ys) none = (λ same. none (subst (Contains (y ∷ ys)) (sym same) (first_member y ys)), not_in x ys (λ at. none (later_member y ys x at)))
 
-is_out : (x : ℕ) (xs : List ℕ) → NotIn x xs → Contains xs x → ⊥
+pub is_out : (x : ℕ) (xs : List ℕ) → NotIn x xs → Contains xs x → ⊥
 is_out x [] out at = no_member [] x refl at
 is_out x (y ∷ ys) out at = elim (member_cases y ys x at) [ inl same ↦ out.0 (sym same) | inr later ↦ is_out x ys out.1 later ]
 

@@ -1,5 +1,5 @@
 -- What is known of the pages on the way up, while each is looked at. Source: docs/FORMAT.md, "Stage 5, reach".
-use Rattle.std.specs.Prelude.{◌≡◌, ◌⊎◌, ℕ, zero, suc, ◌<◌, Bool, List, [], get_or, Some}
+use Rattle.std.specs.Prelude.{◌≡◌, ◌⊎◌, ℕ, zero, suc, ◌+◌, ◌<◌, ◌≤◌, Bool, List, [], get_or, length, Some}
 use Rattle.bdb_graph.specs.declared.reach.Mark.{Mark}
 use Rattle.bdb_graph.specs.declared.reach.Mark.TheVariants.{Open, Way, Known}
 use Rattle.bdb_image.specs.of_format.Terms.{File, first_holder, owners, reaches, reference_faults}
@@ -39,6 +39,13 @@ pub record AreMarks (on next : ℕ → Type 0) (file : File) (marks : List Mark)
 -- no way is open
 abbrev pub AreSettled : File → List Mark → Type 0
 AreSettled file marks = AreMarks (λ q. ⊥) (λ h. ⊥) file marks
+
+-- a page of a file whose references fit, and a mark for each page, where no way is open
+pub record IsOnMarks (file : File) (marks : List Mark) (p : ℕ) : Type 0 where
+  pub page : p ≤ file.last
+  pub fit : IsFit file
+  pub len : length marks ≡ file.last + 1
+  pub settled : AreSettled file marks
 
 -- the way up from a page is open
 abbrev pub HasWay : ℕ → File → List Mark → Type 0

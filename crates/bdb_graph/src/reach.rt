@@ -1,6 +1,6 @@
 ghost use Rattle.std.specs.Prelude.{◌≡◌, ◌≤◌, ◌+◌, OnOk, [], length};
 ghost use Rattle.bdb_image.specs.of_faults.Notes.{NotesAll};
-ghost use Rattle.bdb_graph.specs.Marks.{AreSettled, HasWay, IsFit};
+ghost use Rattle.bdb_graph.specs.Marks.{AreSettled, HasWay, IsFit, IsOnMarks};
 ghost use Rattle.bdb_image.specs.of_format.Terms.{file_of, reach_faults, reaches, reference_faults};
 
 use crate::roles::Roles;
@@ -37,10 +37,7 @@ pub(crate) fn note_reach<F: FaultSink>(
 
 /// Whether a page reaches. It and all pages above it are marked so.
 fn reaches(roles: &Roles<'_>, marks: &mut [Mark], page: u32) -> bool
-    requires page { page ≤ (file_of roles.now).last }
-    requires fit { IsFit (file_of roles.now) }
-    requires len { length marks.old ≡ (file_of roles.now).last + 1 }
-    requires settled { AreSettled (file_of roles.now) marks.old }
+    requires { IsOnMarks (file_of roles.now) marks.old page }
     ensures reach { result ≡ reaches (file_of roles.now) page }
     ensures settled { AreSettled (file_of roles.now) marks.new }
 {
@@ -52,10 +49,7 @@ fn reaches(roles: &Roles<'_>, marks: &mut [Mark], page: u32) -> bool
 /// Goes up from a page by the holders of first references, and marks the way, to a page of which it's known whether
 /// it reaches, one of this way, or one that has no holder. Whether the page there reaches, and so the one below.
 fn leads_up(roles: &Roles<'_>, marks: &mut [Mark], from: u32) -> bool
-    requires page { from ≤ (file_of roles.now).last }
-    requires fit { IsFit (file_of roles.now) }
-    requires len { length marks.old ≡ (file_of roles.now).last + 1 }
-    requires settled { AreSettled (file_of roles.now) marks.old }
+    requires { IsOnMarks (file_of roles.now) marks.old from }
     ensures reach { result ≡ reaches (file_of roles.now) from }
     ensures way { HasWay from (file_of roles.now) marks.new }
 {

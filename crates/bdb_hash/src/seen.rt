@@ -12,20 +12,11 @@ use std::collections::BTreeSet;
 use std::marker::Model;
 
 /// The keys seen so far, and the heads of those that are chains: a chain that was seen isn't read again.
+#[derive(Drop)]
 pub(crate) struct SeenKeys<'a> {
     forest: Forest<'a>,
     keys: Keys<'a>,
     heads: BTreeSet<u32>,
-}
-
-impl Drop for SeenKeys<'_> {
-    fn drop(self) {
-        let SeenKeys {
-            forest: _forest,
-            keys: _keys,
-            heads: _heads,
-        } = self;
-    }
 }
 
 impl<'a> Model for SeenKeys<'a> {

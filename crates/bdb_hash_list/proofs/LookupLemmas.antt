@@ -28,6 +28,7 @@ use Rattle.bdb_buckets.proofs.PlainLemmas.{IsPlain, bucket_plain}
 use Rattle.bdb_buckets.proofs.RowLemmas.{ArePlain, buckets_of}
 use Rattle.bdb_buckets.proofs.of_format.ListLemmas.{flat_map_twice}
 use Rattle.bdb_buckets.proofs.of_format.BoolLemmas.{second_false}
+use Rattle.bdb_buckets.proofs.of_format.MemberLemmas.{nothing_joined}
 
 -- The walk over the pages of a bucket.
 
@@ -111,10 +112,6 @@ list_under file meta key = get_flat (listed_pair file) (BytesKey key) (by_key (t
 
 -- One bucket.
 
-all_empty : {X Y : Type 0} (f : X → List Y) (xs : List X) → ((x : X) → Contains xs x → f x ≡ []) → flat_map f xs ≡ []
-all_empty f [] none = refl
-all_empty f (x ∷ xs) none = rw (none x (first_member x xs), all_empty f xs (λ y at. none y (later_member x xs y at))) refl
-
 -- where all but one of some parts are empty, that one is the whole
 one_of_range : {X : Type 0} (f : ℕ → List X) (a n b : ℕ) → Contains (range_with_len a n) b
     → ((c : ℕ) → Contains (range_with_len a n) c → (c ≡ b → ⊥) → f c ≡ []) → flat_map f (range_with_len a n) ≡ f b
@@ -123,7 +120,7 @@ one_of_range f a (suc n) b at none =
     let rest : List ℕ = range_with_len (a + 1) n in
     elim (member_cases a rest b at) [
       | inl same ↦
-          ap (λ xs. f a ++ xs) (all_empty f rest (λ c later. none c (later_member a rest c later) (λ is.
+          ap (λ xs. f a ++ xs) (nothing_joined f rest (λ c later. none c (later_member a rest c later) (λ is.
           (let above = of_range (a + 1) n c later in omega (arith, above.0)))))
           ∙ (append-nil (f a) ∙ ap f same)
       | inr later ↦
@@ -244,7 +241,7 @@ first_under image key (pair ∷ pairs) plain apart =
       | true ↦ λ own.
           ap (λ vs. vs ++ flat_map (under file key) pairs) (under_own file key pair (plain pair (first_member pair pairs)).live own)
           ∙ (ap (λ vs. data_of file pair.data_item ++ vs)
-          (all_empty (under file key) pairs (λ other at.
+          (nothing_joined (under file key) pairs (λ other at.
           under_other file key other (same_key pair.key other.key key (apart.0 other at) own))) ∙ append-nil
           (data_of file pair.data_item))
       | false ↦ λ other.
@@ -263,7 +260,7 @@ list_found image meta key b found table has none is few same =
     let file : File = file_of image in
     let listed : Contains (buckets_of meta) b = in_range 0 (meta.max_bucket + 1) b (omega arith) (omega arith) in
     let others : (c : ℕ) → Contains (buckets_of meta) c → (c ≡ b → ⊥) → flat_map (under file key) (bucket_pairs file meta c) ≡ [] =
-    λ c at_c apart. all_empty (under file key) (bucket_pairs file meta c) (λ pair at. under_other file key pair
+    λ c at_c apart. nothing_joined (under file key) (bucket_pairs file meta c) (λ pair at. under_other file key pair
     (false_from_ne_true (bytes_eq pair.key key) (λ own.
     apart (sym (own_bucket image meta c pair table has none at_c at) ∙ (ap (bucket_of_key meta) (eq_same pair.key key own) ∙ sym is))))) in
     sym

@@ -11,20 +11,11 @@ use bdb_buckets::{Data, Datum, KeyView};
 use std::marker::Model;
 
 /// The list of a table that is left, in the order of its keys: each key with each of its data.
+#[derive(Drop)]
 pub struct Scan<'a> {
     rest: Ranked<'a>,
     key: Datum<'a>,
     values: Data<'a>,
-}
-
-impl Drop for Scan<'_> {
-    fn drop(self) {
-        let Scan {
-            rest: _rest,
-            key: _key,
-            values: _values,
-        } = self;
-    }
 }
 
 impl<'a> Model for Scan<'a> {

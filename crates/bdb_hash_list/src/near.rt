@@ -14,6 +14,7 @@ const NEAR: usize = 32;
 
 /// Places in the order of their keys, which lie apart from each other. A few are taken at once, and what is first read of their pairs is read then: so
 /// the processor waits for several pages at once, and not for each by itself.
+#[derive(Drop)]
 pub(crate) struct Near<'a> {
     image: &'a [u8],
     head: Head,
@@ -21,18 +22,6 @@ pub(crate) struct Near<'a> {
     rest: IntoIter<PairPlace>,
     // What was read. Nothing asks for it.
     seen: u8,
-}
-
-impl Drop for Near<'_> {
-    fn drop(self) {
-        let Near {
-            image: _image,
-            head: _head,
-            near: _near,
-            rest: _rest,
-            seen: _seen,
-        } = self;
-    }
 }
 
 impl<'a> Model for Near<'a> {

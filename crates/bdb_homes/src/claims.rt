@@ -49,29 +49,6 @@ fn note_root(faces: &[Face], ups: &mut [Up], leaps: &[u32], holder: u32, meta: &
     note(ups, meta.root, fits, Up::Metadata(holder));
 }
 
-/// Notes the claims of a page that isn't metadata.
-fn note_view(faces: &[Face], ups: &mut [Up], leaps: &[u32], holder: u32, view: &PageView<'_>)
-    requires other { IsNoMetadata view.now }
-    requires leaps { HasLeaps faces.now ups.old leaps.now }
-    ensures leaps { HasLeaps faces.now ups.new leaps.now }
-    ensures ups { (file : File) (claims : List Claim) → AreFaces file faces.now → page_at file holder ≡ page_seen view.now → AreUps file ups.old claims
-        → AreUps file ups.new (claims ++ map (claim holder) (below_in (page_seen view.now))) }
-{
-    match view {
-        PageView::Internal(view) => note_keyed(faces, ups, holder, view),
-        PageView::RecnoInternal(view) => note_counted(faces, ups, holder, view),
-        PageView::Zero(_)
-        | PageView::Free(_)
-        | PageView::Meta(_)
-        | PageView::Leaf(_)
-        | PageView::RecnoLeaf(_)
-        | PageView::DupLeaf(_)
-        | PageView::Hash(_)
-        | PageView::Overflow(_)
-        | PageView::Queue(_) => {}
-    }
-}
-
 /// Notes the claims of metadata.
 fn note_meta(faces: &[Face], ups: &mut [Up], leaps: &mut [u32], holder: u32, meta: &Meta)
     requires few { HasFewBuckets meta.now }
@@ -103,7 +80,9 @@ fn note_below(faces: &[Face], ups: &mut [Up], leaps: &mut [u32], holder: u32, pa
 {
     match page {
         Judged::Meta(meta) => note_meta(faces, ups, leaps, holder, meta),
-        Judged::Other(view) => note_view(faces, ups, leaps, holder, view),
+        Judged::Other(PageView::Internal(view)) => note_keyed(faces, ups, holder, view),
+        Judged::Other(PageView::RecnoInternal(view)) => note_counted(faces, ups, holder, view),
+        Judged::Other(_) => {}
     }
 }
 

@@ -406,7 +406,7 @@ const PUSHED: [Wanted; 4] = [
 #[test]
 fn pairs_are_a_list(rt: HostRuntime) -> Result<(), Fail> {
     let mut pairs = TextPairs::new(rt.alloc());
-    assert!(rt; pairs.is_empty() && are_pushed(&mut pairs)?);
+    assert!(rt; pairs.len() == 0 && are_pushed(&mut pairs)?);
     Ok(())
 }
 
@@ -419,7 +419,7 @@ fn are_given(alloc: Global, pairs: &mut TextPairs) -> Result<bool, AllocError> {
     })?;
     let stands = pairs.get(0).map(|pair| pair.line) == Some(9) && pairs.get(1).is_none();
     let line = pairs.pop(alloc)?.map(|pair| pair.line);
-    Ok(stands && line == Some(9) && pairs.is_empty() && pairs.pop(alloc)?.is_none())
+    Ok(stands && line == Some(9) && pairs.len() == 0 && pairs.pop(alloc)?.is_none())
 }
 
 #[test]
@@ -438,7 +438,7 @@ fn is_listed(alloc: Global) -> Result<bool, AllocError> {
         key: Key::Number(7),
         value,
     })?;
-    let stands = !list.is_empty() && list.len() == 1 && list.as_slice().len() == 1;
+    let stands = list.len() == 1 && list.as_slice().len() == 1;
     let line = list.get(0).map(|pair| pair.line);
     Ok(stands && line == Some(0) && list.into_pairs().len() == 1)
 }

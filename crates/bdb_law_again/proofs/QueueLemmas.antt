@@ -27,13 +27,13 @@ use Rattle.bdb_repair.specs.of_image.Linked.{IsForest}
 use Rattle.bdb_repair.specs.of_rescue.Kept.{file_in}
 use Rattle.bdb_repair.specs.of_rescue.Text.{numbered_record}
 use Rattle.bdb_repair.specs.of_apart.Found.{Found, found, found_beside, only_found}
-use Rattle.bdb_repair.specs.of_apart.Queues.{is_queue_meta, is_queue_page, queue_in, queue_on, queue_records, queue_records_on, queue_slot, slots_from}
+use Rattle.bdb_repair.specs.of_apart.Queues.{is_queue_meta, is_queue_page, queue_in, queue_on, queue_records, queue_records_on, queue_slot, queue_slots_from}
 use Rattle.bdb_repair.specs.of_apart.Read.{read}
 use Rattle.bdb_law_apart.specs.Named.{database_of}
 use Rattle.bdb_law_apart.proofs.of_apart.of_rescue.of_image.CodeLemmas.{first_page_code, form_queue, identity_fails, not_zero}
 use Rattle.bdb_law_apart.proofs.of_apart.of_rescue.of_image.FirstLemmas.{formed_accepted, formed_page}
 use Rattle.bdb_law_apart.proofs.of_apart.of_rescue.of_image.HeldLemmas.{own_type}
-use Rattle.bdb_law_apart.proofs.of_apart.of_rescue.of_overflow.LinkedLemmas.{legal_size}
+use Rattle.bdb_law_apart.proofs.of_apart.of_rescue.of_overflow.LinkedLemmas.{legal_size, pages_is}
 use Rattle.bdb_law_apart.proofs.of_apart.of_rescue.of_overflow.WholeLemmas.{page_length}
 use Rattle.bdb_law_apart.proofs.of_law_whole.PageLemmas.{last_there, same_count}
 
@@ -63,11 +63,6 @@ first_page image is =
     let some : is_zero bytes ≡ false = not_zero bytes head.kind (ap is_page_size size ∙ legal) own in
     page_is image 0 (omega arith)
     ∙ (typed_page head.order bytes some ∙ ap (λ b. page_as head.order bytes (page_type b)) (own ∙ ap type_of is.kind))
-
--- how many pages the file has
-pages_are : (image : List ℕ) → (head_of image).pages ≡ length image / (head_of image).page_size
-unfolding head_of
-pages_are image = refl
 
 -- Its rows.
 
@@ -141,7 +136,7 @@ found_queue image is full =
     all_so (byte_at bytes 25 == type_of QueueFile) (is_none (first_row (field_rows head.order bytes 1 0 QueueFile))) (nat_lt 0 (queue_of image).re_len)
     (eq-eqb (byte_at bytes 25) (type_of QueueFile) own) (ap is_none none) some in
     let there : nat_lt 0 (file_in (read image)).count ≡ true =
-    lt-ltb 0 (file_in (read image)).count (omega (arith, same_count image, count_is image, pages_are image, last_there image is.forest)) in
+    lt-ltb 0 (file_in (read image)).count (omega (arith, same_count image, count_is image, pages_is image, last_there image is.forest)) in
     ap (λ b. cond b (queue_on head.order bytes) None) there ∙ ap (λ b. cond b (Some (queue_of image)) None) all
 
 -- what is found, and what the file has
@@ -177,7 +172,7 @@ slot_is meta p records slot = by_test (is_record meta p records slot)
     by_test false = refl
 
 slots_are : (meta : QueueMeta) (p : ℕ) (records : List ℕ)
-    → map numbered_record (slots_from meta p records 0) ≡ flat_map (listed_slot meta p records) (range_with_len 0 meta.per_page)
+    → map numbered_record (queue_slots_from meta p records 0) ≡ flat_map (listed_slot meta p records) (range_with_len 0 meta.per_page)
 slots_are meta p records =
     let all : meta.per_page - 0 ≡ meta.per_page = omega arith in
     map_joined numbered_record (queue_slot meta p records) (range_with_len 0 (meta.per_page - 0))
@@ -219,7 +214,7 @@ on_page image p is some low = by_zero (is_zero bytes) refl
     by_zero true zeros =
         let none : is_queue_page head.order p bytes ≡ false =
         ap (λ n. is_queue_type n && four_at head.order bytes 8 == p) (zero_byte bytes 25 zeros) in
-        ap (λ b. map numbered_record (cond b (slots_from meta p (drop 28 bytes) 0) [])) none
+        ap (λ b. map numbered_record (cond b (queue_slots_from meta p (drop 28 bytes) 0) [])) none
         ∙ sym (ap (page_records meta p) (page_is image p low ∙ zero_page head.order bytes zeros))
     by_zero false written =
         let form : form_code head p bytes ≡ None = formed_page image p is.forest.formed.form low in
@@ -227,7 +222,7 @@ on_page image p is some low = by_zero (is_zero bytes) refl
         let there : is_queue_page head.order p bytes ≡ true =
         ap (λ b. b && four_at head.order bytes 8 == p) own.type_is ∙ own.number_is in
         let byte : byte_at bytes 25 ≡ 11 = eqb-true (byte_at bytes 25) 11 own.type_is in
-        ap (λ b. map numbered_record (cond b (slots_from meta p (drop 28 bytes) 0) [])) there
+        ap (λ b. map numbered_record (cond b (queue_slots_from meta p (drop 28 bytes) 0) [])) there
         ∙ (slots_are meta p (drop 28 bytes)
         ∙ sym (ap (page_records meta p) (page_is image p low
         ∙ (typed_page head.order bytes written ∙ ap (λ b. page_as head.order bytes (page_type b)) byte))))

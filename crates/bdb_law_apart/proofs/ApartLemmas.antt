@@ -1,8 +1,8 @@
 -- Lists in which each member is related to all that come later: parts of them, and lists with the same members.
-use Rattle.std.proofs.Common.{◌≡◌, ◌≢◌, ◌⊎◌, ℕ, Bool, true, false, cond, List, [], ◌∷◌, ◌++◌, map, refl, sym, ◌∙◌, ap, subst, inl, inr, true≢false}
-use Rattle.std.specs.List.{Contains, filter}
+use Rattle.std.proofs.Common.{◌≡◌, ◌≢◌, ◌⊎◌, ℕ, true, List, [], ◌∷◌, ◌++◌, map, refl, sym, ◌∙◌, ap, subst, inl, inr, true≢false}
+use Rattle.std.specs.List.{Contains}
 use Rattle.bdb_apart.specs.of_format.Terms.{less}
-use Rattle.bdb_law_homes.proofs.of_format.MemberLemmas.{first_member, in_map, is_empty, later_member, member_cases, no_member, of_filter}
+use Rattle.bdb_law_homes.proofs.of_format.MemberLemmas.{first_member, in_map, is_empty, later_member, member_cases, no_member}
 use Rattle.bdb_law_homes.proofs.of_format.LessLemmas.{less_not_back, less_self}
 use Rattle.bdb_law_kept.specs.Later.{AllLater}
 
@@ -23,14 +23,6 @@ either_way R (x ∷ xs) a b all at_a at_b other = elim (member_cases x xs a at_a
 pub later_last : {X : Type 0} (R : X → X → Type 0) (xs ys : List X) → AllLater R (xs ++ ys) → AllLater R ys
 later_last R [] ys all = all
 later_last R (x ∷ xs) ys all = later_last R xs ys all.1
-
-pub later_filter : {X : Type 0} (R : X → X → Type 0) (test : X → Bool) (xs : List X) → AllLater R xs → AllLater R (filter test xs)
-later_filter R test [] all = tt
-later_filter R test (x ∷ xs) all = by_test (test x) (later_filter R test xs all.1)
-  where
-    by_test : (b : Bool) → AllLater R (filter test xs) → AllLater R (cond b (x ∷ filter test xs) (filter test xs))
-    by_test true rest = ((λ y at. all.0 y (of_filter test xs y at).0), rest)
-    by_test false rest = rest
 
 pub later_unmap : {X Y : Type 0} (R : Y → Y → Type 0) (f : X → Y) (xs : List X) → AllLater R (map f xs) → AllLater (λ x z. R (f x) (f z)) xs
 later_unmap R f [] all = tt

@@ -41,12 +41,11 @@ use Rattle.bdb_law_kept.specs.Kept.{LoadsAlike}
 use Rattle.bdb_law_kept.specs.Later.{AllLater}
 use Rattle.bdb_law_kept.proofs.ContentsLemmas.{btree_kept}
 use Rattle.bdb_law_kept.proofs.KeyedLemmas.{Climb, climb_above, climb_from, of_listed}
-use Rattle.bdb_law_kept.proofs.LaterLemmas.{later_other, later_range}
+use Rattle.bdb_law_kept.proofs.LaterLemmas.{later_filter, later_other, later_range}
 use Rattle.bdb_law_kept.proofs.NumberedLemmas.{IsKeptList}
 use Rattle.bdb_law_kept.proofs.SettledLemmas.{key_out}
 use Rattle.bdb_law_homes.proofs.of_format.LessLemmas.{less_trans}
 use Rattle.bdb_apart.specs.Read.{read}
-use Rattle.bdb_law_apart.proofs.ApartLemmas.{later_filter}
 use Rattle.bdb_law_apart.proofs.BlockLemmas.{Entry, IsBelow}
 use Rattle.bdb_law_apart.proofs.EntryLemmas.{leaf_typed}
 use Rattle.bdb_law_apart.proofs.FoundLemmas.{same_fields}

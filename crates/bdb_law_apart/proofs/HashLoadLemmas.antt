@@ -21,7 +21,7 @@ use Rattle.bdb_apart.specs.Given.{above, gives_pairs, holds_pairs, in_image, is_
 use Rattle.bdb_apart.specs.Rows.{is_some_of}
 use Rattle.bdb_apart.specs.Text.{list_given}
 use Rattle.bdb_law_homes.proofs.of_format.FileLemmas.{past_last}
-use Rattle.bdb_law_homes.proofs.of_format.LessLemmas.{eq_same, eq_self, less_self}
+use Rattle.bdb_law_homes.proofs.of_format.LessLemmas.{differ_back, eq_same, eq_self, less_self}
 use Rattle.bdb_law_homes.proofs.of_format.ListLemmas.{flat_map_same, flat_map_twice, map_joined, passes_here}
 use Rattle.bdb_law_homes.proofs.of_format.MemberLemmas.{first_member, in_filter, in_flat_map, in_range, later_member, member_cases, no_member, of_filter}
 use Rattle.bdb_law_homes.proofs.of_format.MemberLemmas.{of_flat_map}
@@ -43,11 +43,11 @@ use Rattle.bdb_law_kept.specs.Kept.{LoadsAlike}
 use Rattle.bdb_law_kept.specs.Later.{AllLater}
 use Rattle.bdb_law_kept.proofs.ContentsLemmas.{hash_kept, no_repeats}
 use Rattle.bdb_law_kept.proofs.KeyedLemmas.{by_key_rises, later_apart, of_by_key, of_listed}
-use Rattle.bdb_law_kept.proofs.LaterLemmas.{later_flat, later_other, later_range}
+use Rattle.bdb_law_kept.proofs.LaterLemmas.{later_filter, later_flat, later_other, later_range}
 use Rattle.bdb_law_kept.proofs.NumberedLemmas.{IsKeptList}
 use Rattle.bdb_law_kept.proofs.SettledLemmas.{key_out}
 use Rattle.bdb_apart.specs.Read.{read}
-use Rattle.bdb_law_apart.proofs.ApartLemmas.{either_way, later_filter}
+use Rattle.bdb_law_apart.proofs.ApartLemmas.{either_way}
 use Rattle.bdb_law_apart.proofs.BlockLemmas.{Entry, IsBelow, IsOther}
 use Rattle.bdb_law_apart.proofs.BtreeLoadLemmas.{page_gives, pairs_at, some_is}
 use Rattle.bdb_law_apart.proofs.EntryLemmas.{with_pairs}
@@ -194,15 +194,6 @@ given_is image table db of =
 abbrev Apart : StoredPair → StoredPair → Type 0
 Apart a b = bytes_eq a.key b.key ≡ false
 
-apart_back : (a b : List ℕ) → bytes_eq a b ≡ false → bytes_eq b a ≡ false
-apart_back a b apart = by_test (bytes_eq b a) refl
-  where
-    by_test : (c : Bool) → bytes_eq b a ≡ c → c ≡ false
-    by_test false is = refl
-    by_test true is =
-        let same : b ≡ a = eq_same b a is in
-        absurd (true≢false (sym (eq_self a) ∙ (sym (ap (bytes_eq a) same) ∙ apart)))
-
 all_apart : (image : List ℕ) (table : HashMeta) (db : Found) → IsHashDb image table db
     → AllLater Apart (flat_map (pairs_of (file_of image)) (table_pages (file_of image) table))
 all_apart image table db of =
@@ -240,7 +231,7 @@ given_apart image table db of =
         (in_pages file table p (given_bucket image table db p a of at_p at_a))
         (in_pages file table q (given_bucket image table db q b of at_q at_b)) (λ same. omega (arith, less, same))) [
           | inl so ↦ so a b at_a at_b
-          | inr so ↦ apart_back b.key a.key (so b a at_b at_a)
+          | inr so ↦ differ_back b.key a.key (so b a at_b at_a)
         ]
 
 in_insert : (pair : StoredPair) (pairs : List StoredPair) (one : StoredPair) → (pair ≡ one) ⊎ Contains pairs one → Contains (insert_pair pair pairs) one
@@ -281,7 +272,7 @@ keys_below file a b low x y at_x at_y =
     ∙ (ap (λ (e : Entry). key_less (key_out (BytesKey a.key)) (key_out e.0)) (sym two.2) ∙ low)
 
 keys_other : (a b : StoredPair) → less a.key b.key ≡ true → IsOther (λ (x y : StoredPair). bytes_eq x.key y.key) a b
-keys_other a b low = (by_test (bytes_eq a.key b.key) refl, apart_back a.key b.key (by_test (bytes_eq a.key b.key) refl))
+keys_other a b low = (by_test (bytes_eq a.key b.key) refl, differ_back a.key b.key (by_test (bytes_eq a.key b.key) refl))
   where
     by_test : (c : Bool) → bytes_eq a.key b.key ≡ c → c ≡ false
     by_test false is = refl

@@ -13,7 +13,7 @@ use Rattle.bdb_apart.proofs.of_homes.Homes.{home}
 use Rattle.bdb_apart.specs.of_survey.Salvage.{stored_on}
 use Rattle.bdb_apart.specs.Found.{Found, found, is_alone, is_at, is_leaf, is_master_leaf}
 use Rattle.bdb_apart.specs.Given.{above, are_given, db_at, gives_on, holds_pairs, is_pair_page, meta_at, names_found, pairs_left, pairs_left_on}
-use Rattle.bdb_law_homes.proofs.of_format.MemberLemmas.{is_empty, no_member, of_filter, of_flat_map}
+use Rattle.bdb_law_homes.proofs.of_format.MemberLemmas.{is_empty, nothing_joined, of_filter}
 use Rattle.bdb_law_homes.proofs.of_graph.ReadLemmas.{master_is}
 use Rattle.bdb_law_homes.specs.of_law_sums.Databases.{given_pair}
 use Rattle.bdb_law_homes.proofs.of_law_sums.HashLemmas.{hash_type}
@@ -39,10 +39,6 @@ nothing_or_some (x ∷ xs) = inr (λ none. cc)
 pub nothing_passes : {X : Type 0} (test : X → Bool) (xs : List X) → ((x : X) → Contains xs x → test x ≡ false) → filter test xs ≡ []
 nothing_passes test xs fails =
     is_empty (filter test xs) (λ x at. let kept = of_filter test xs x at in absurd (let both : true ≡ false = sym kept.1 ∙ fails x kept.0 in cc))
-
-pub nothing_joined : {X Y : Type 0} (f : X → List Y) (xs : List X) → ((x : X) → Contains xs x → f x ≡ []) → flat_map f xs ≡ []
-nothing_joined f xs none =
-    is_empty (flat_map f xs) (λ y at. let found = of_flat_map f xs y at in no_member (f found.0) y (none found.0 found.1) found.2)
 
 pub either_nothing : {X : Type 0} (b : Bool) (xs : List X) → xs ≡ [] → cond b [] xs ≡ []
 either_nothing true xs none = refl

@@ -16,10 +16,10 @@ use Rattle.bdb_law_kept.specs.Kept.{LoadsAlike}
 use Rattle.bdb_law_kept.specs.Later.{AllLater}
 use Rattle.bdb_law_kept.proofs.AlikeLemmas.{length_alike, order_alike}
 use Rattle.bdb_law_kept.proofs.KeyedLemmas.{later_first}
-use Rattle.bdb_law_kept.proofs.LaterLemmas.{later_other}
+use Rattle.bdb_law_kept.proofs.LaterLemmas.{later_filter, later_other}
 use Rattle.bdb_law_kept.proofs.NumberedLemmas.{IsKeptList}
 use Rattle.bdb_law_kept.proofs.SettledLemmas.{HasItsLength, all_listed, all_unfilled, key_out, pair_out}
-use Rattle.bdb_law_apart.proofs.ApartLemmas.{later_filter, later_last}
+use Rattle.bdb_law_apart.proofs.ApartLemmas.{later_last}
 use Rattle.bdb_law_apart.proofs.BlockLemmas.{Entry, IsBelow, IsOther, blocks_load, drop_empty}
 
 -- Parts of an ordered list.

@@ -23,8 +23,9 @@ use Rattle.bdb_law_homes.proofs.of_law_whole.PageLemmas.{above, last_there, salv
 use Rattle.bdb_law_homes.proofs.of_law_whole.of_survey.StoredPageLemmas.{page_is}
 use Rattle.bdb_law_kept.proofs.SoundLemmas.{forest_of}
 use Rattle.bdb_law_apart.specs.Left.{NothingIsLeftOfQueues}
-use Rattle.bdb_law_apart.proofs.LeftLemmas.{either_nothing, none_stored, nothing_joined}
+use Rattle.bdb_law_apart.proofs.LeftLemmas.{either_nothing, none_stored}
 use Rattle.bdb_law_apart.proofs.RecordLemmas.{beside_none}
+use Rattle.bdb_law_homes.proofs.of_format.MemberLemmas.{nothing_joined}
 
 -- The pages.
 

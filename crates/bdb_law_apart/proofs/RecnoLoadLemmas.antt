@@ -1,7 +1,7 @@
 -- What is given of a recno is loaded into its list.
 use Rattle.std.proofs.Common.{◌≡◌, ◌≢◌, ◌⊎◌, ℕ, ◌≤◌, Bool, true, false, cond, List, [], ◌∷◌, ◌++◌, map, arith, refl, sym, ◌∙◌, ap, subst, inl, inr}
 use Rattle.std.specs.Prelude.{Option, Some, None, ◌==◌, ◌&&◌, not}
-use Rattle.std.specs.List.{Contains, filter, flat_map, range_with_len}
+use Rattle.std.specs.List.{Contains, flat_map, range_with_len}
 use Rattle.std.proofs.lemmas.Bool.{and_parts, eqb-true}
 use Rattle.std.proofs.lemmas.Option.{same_Some}
 use Rattle.bdb_apart.specs.of_format.declared.metadata.BtreeMeta.{BtreeMeta}
@@ -19,7 +19,7 @@ use Rattle.bdb_apart.specs.Given.{records_on}
 use Rattle.bdb_apart.specs.Given.{start_at, start_in}
 use Rattle.bdb_apart.specs.Text.{list_given}
 use Rattle.bdb_law_homes.proofs.of_format.ListLemmas.{map_joined}
-use Rattle.bdb_law_homes.proofs.of_format.MemberLemmas.{first_member, in_flat_map, in_range, later_member}
+use Rattle.bdb_law_homes.proofs.of_format.MemberLemmas.{all_pass, first_member, in_flat_map, in_range, later_member}
 use Rattle.bdb_law_homes.proofs.of_graph.LinkedLemmas.{root_fits}
 use Rattle.bdb_law_homes.specs.of_law_sums.Databases.{IsOfSet}
 use Rattle.bdb_law_homes.proofs.of_law_sums.LeafLemmas.{btree_leaf_type}
@@ -72,12 +72,6 @@ free_leaf image meta tree p on at = by_test (is_taken (guessed image) p) refl
         (no_leaf_of_both image tree.root of.root p on.is.sound.forest
         (root_fits image (head_of image) tree on.is.sound.forest.formed (metadata image meta tree on)) of.set at of.leaf)
 
-filter_all : {X : Type 0} (test : X → Bool) (xs : List X) → ((x : X) → Contains xs x → test x ≡ true) → filter test xs ≡ xs
-filter_all test [] all = refl
-filter_all test (x ∷ xs) all =
-    ap (λ b. cond b (x ∷ filter test xs) (filter test xs)) (all x (first_member x xs))
-    ∙ ap (λ rest. x ∷ rest) (filter_all test xs (λ y at. all y (later_member x xs y at)))
-
 leaf_low : (image : List ℕ) (meta : ℕ) (tree : BtreeMeta) (p : ℕ) → IsRecnoOn image meta tree → Contains (leaves (file_of image) tree.root) p
     → p ≤ (file_of image).last
 leaf_low image meta tree p on at = inside_file image is_record_page p refl (ap is_record_page (leaf_view image meta tree p on at).1)
@@ -93,7 +87,7 @@ leaf_gives image tree db before p after is parts =
     start_of image db.meta tree before p after db is.on parts at low (free_leaf image db.meta tree p is.on at) refl is.fields in
     ap (λ s. map numbered_record (records_from g db p s)) start
     ∙ (ap (map numbered_record)
-    (filter_all (fits_record db.fields) (numbered_on g p n)
+    (all_pass (fits_record db.fields) (numbered_on g p n)
     (λ placed there. ap (λ fields. fits_record fields placed) is.fields ∙ all_fit image db.meta tree before p after placed is.on parts low there))
     ∙ numbered_is image p n is.on.is low)
   where

@@ -47,8 +47,9 @@ use Rattle.bdb_law_kept.proofs.NumberedLemmas.{IsKeptList, of_recno, recno_kept,
 use Rattle.bdb_law_apart.specs.Left.{NoRecordIsLeft}
 use Rattle.bdb_apart.specs.Read.{read}
 use Rattle.bdb_law_apart.proofs.FoundLemmas.{IsFoundAt}
-use Rattle.bdb_law_apart.proofs.LeftLemmas.{is_found, nothing_joined, nothing_or_some, nothing_passes}
+use Rattle.bdb_law_apart.proofs.LeftLemmas.{is_found, nothing_or_some, nothing_passes}
 use Rattle.bdb_law_apart.proofs.SeenLemmas.{IsSeen, home_is, inside, inside_file, page_is, seen}
+use Rattle.bdb_law_homes.proofs.of_format.MemberLemmas.{nothing_joined}
 
 -- Lists.
 

@@ -16,7 +16,7 @@ use Rattle.bdb_law_whole.specs.of_format.Terms.{BtreeFields, File, Internal, Ite
 use Rattle.bdb_law_whole.specs.of_format.Terms.{child_types, children_in}
 use Rattle.bdb_law_whole.specs.of_format.Terms.{entries_in, file_of, has_type, has_wrong_count, header_in, inner_in, inner_pages, is_meta, is_recno}
 use Rattle.bdb_law_whole.specs.of_format.Terms.{is_zero_page, leaves, leaves_in, leaves_under, page_at, root_types, targets_in, tree_entries, type_in}
-use Rattle.bdb_law_whole.proofs.of_graph.LeavesLemmas.{no_leaf_twice}
+use Rattle.bdb_law_whole.proofs.of_graph.LeavesLemmas.{is_out, no_leaf_twice}
 use Rattle.bdb_law_whole.proofs.of_format.MemberLemmas.{first_member, in_filter, in_flat_map, in_map, later_member, member_cases, no_member, none_passes}
 use Rattle.bdb_homes.specs.Claims.{Below, below_in, counted}
 use Rattle.bdb_homes.specs.Homes.{by_claim, claimed_in, later}
@@ -108,10 +108,6 @@ at_item file n s (one ∷ firsts) others item counts =
     (at_item file n (s + one.count) firsts others item (λ i at. counts i (later_member one (firsts ++ item ∷ others) i at))))
 
 -- children that are distinct are named once
-is_out : (x : ℕ) (xs : List ℕ) → NotIn x xs → Contains xs x → ⊥
-is_out x [] out at = no_member [] x refl at
-is_out x (y ∷ ys) out at = elim (member_cases y ys x at) [ inl same ↦ out.0 (sym same) | inr later ↦ is_out x ys out.1 later ]
-
 not_later : (s child : ℕ) (items : List RecnoItem) (b : Below) → NotIn child (map child_of items) → Contains (counted s items) b → child ≡ b.page → ⊥
 not_later s child items b out at same =
     let found = of_counted s items b at in

@@ -1,9 +1,9 @@
 -- Laws of lists in which each member is related to all that come later.
-use Rattle.std.proofs.Common.{ℕ, zero, suc, ◌+◌, ◌<◌, ◌≤◌, List, [], ◌∷◌, ◌++◌, length, map, arith, refl, subst, inl, inr}
-use Rattle.std.specs.List.{Contains, enumerate_from, flat_map, range_with_len}
+use Rattle.std.proofs.Common.{ℕ, zero, suc, ◌+◌, ◌<◌, ◌≤◌, Bool, true, false, cond, List, [], ◌∷◌, ◌++◌, length, map, arith, refl, subst, inl, inr}
+use Rattle.std.specs.List.{Contains, enumerate_from, filter, flat_map, range_with_len}
 use Rattle.std.proofs.lemmas.List.Elements.{Contains-append_cases}
 use Rattle.bdb_law_kept.specs.Later.{AllLater}
-use Rattle.bdb_databases.proofs.of_format.MemberLemmas.{first_member, later_member, member_cases, no_member, of_flat_map, of_map, of_range}
+use Rattle.bdb_databases.proofs.of_format.MemberLemmas.{first_member, later_member, member_cases, no_member, of_filter, of_flat_map, of_map, of_range}
 
 pub later_one : {X : Type 0} (R : X → X → Type 0) (x : X) → AllLater R (x ∷ [])
 later_one R x = (λ y at. absurd (no_member [] y refl at), tt)
@@ -38,6 +38,14 @@ later_other R S (x ∷ xs) more all = (
   (λ y at. more x y (first_member x xs) (later_member x xs y at) (all.0 y at)),
   later_other R S xs (λ z y at_z at_y. more z y (later_member x xs z at_z) (later_member x xs y at_y)) all.1,
 )
+
+pub later_filter : {X : Type 0} (R : X → X → Type 0) (test : X → Bool) (xs : List X) → AllLater R xs → AllLater R (filter test xs)
+later_filter R test [] all = tt
+later_filter R test (x ∷ xs) all = by_test (test x) (later_filter R test xs all.1)
+  where
+    by_test : (b : Bool) → AllLater R (filter test xs) → AllLater R (cond b (x ∷ filter test xs) (filter test xs))
+    by_test true rest = ((λ y at. all.0 y (of_filter test xs y at).0), rest)
+    by_test false rest = rest
 
 pub later_map : {X Y : Type 0} (R : Y → Y → Type 0) (f : X → Y) (xs : List X) → AllLater (λ x z. R (f x) (f z)) xs → AllLater R (map f xs)
 later_map R f [] all = tt

@@ -7,8 +7,9 @@ use Rattle.bdb_text_format.specs.declared.pairs.Key.{Key}
 use Rattle.bdb_text_format.specs.declared.pairs.Key.TheVariants.{Bytes, Number}
 use Rattle.bdb_text_format.specs.declared.pairs.TextPair.{TextPair}
 use Rattle.bdb_text_format.specs.Terms.{before, bytes_spelled, counted_pairs, data_read, is_record_number, key_read, keyed_pairs, next_unit, onto_first}
-use Rattle.bdb_text_format.specs.Terms.{text_lines, units_read, with_text_pair}
-use Rattle.bdb_law_sections.specs.Fit.{IsFitPair, is_number, key_length}
+use Rattle.bdb_text_format.specs.Terms.{holds_records, text_lines, units_read, with_text_pair}
+use Rattle.bdb_law_sections.specs.Fit.{IsFitPair, IsFitSection, is_number, key_length}
+use Rattle.bdb_text_format.specs.declared.sections.Section.{Section}
 
 -- Lines.
 
@@ -173,3 +174,10 @@ pub fit_longer : (numbered : Bool) (least most : ℕ) (pairs : List TextPair) �
 fit_longer numbered least most pairs low =
     All-weaker (IsFitPair numbered least) (IsFitPair numbered most)
     (λ pair fit. record { key = fit.key; key_length = omega (arith, low, fit.key_length); length = omega (arith, low, fit.length) }) pairs
+
+-- and so is a section
+pub section_longer : (least most : ℕ) (section : Section) → least ≤ most → IsFitSection least section → IsFitSection most section
+section_longer least most section low fit = record {
+  settings = fit.settings;
+  pairs = fit_longer (holds_records section.settings.kind) least most section.pairs low fit.pairs;
+}

@@ -1,9 +1,8 @@
 -- Counts of what salvage gives from a sound file are counts of what its databases list.
 use Rattle.std.proofs.Common.{◌≡◌, ℕ, zero, suc, ◌+◌, ◌-◌, ◌<◌, ◌≤◌, Bool, true, false, List, [], ◌∷◌, arith, refl, sym, ◌∙◌, ap, if◌then◌else◌}
 use Rattle.std.specs.List.{count_by, flat_map, range_with_len, sum_by}
-use Rattle.std.proofs.lemmas.List.Sums.{sum_by-append, sum_by-cons}
 use Rattle.bdb_survey.specs.of_format.Terms.{BytesKey, File, ListKey, NumberKey, entries_in, file_of, head_of}
-use Rattle.bdb_survey.proofs.of_format.ListLemmas.{range_zero_more}
+use Rattle.bdb_survey.proofs.of_format.ListLemmas.{sum_last}
 use Rattle.bdb_survey.proofs.of_format.MemberLemmas.{of_range}
 use Rattle.bdb_survey.proofs.of_format.FileLemmas.{kind_is, past_last}
 use Rattle.bdb_survey.specs.Salvage.{is_taken, item_pairs, live_value, live_whole, loose, loose_on, stored, stored_on, stored_pair}
@@ -21,11 +20,6 @@ use Rattle.bdb_law_whole.proofs.PairLemmas.{live_is, stored_is}
 use Rattle.bdb_law_whole.proofs.TakenLemmas.{taken_is}
 
 -- Sums over the pages of an image.
-
-sum_last : (f : ℕ → ℕ) (n : ℕ) → sum_by f (range_with_len 0 (n + 1)) ≡ sum_by f (range_with_len 0 n) + f n
-sum_last f n =
-    ap (sum_by f) (range_zero_more n)
-    ∙ omega (arith, sum_by-append f (range_with_len 0 n) (n ∷ []), sum_by-cons f n [])
 
 -- where the rest gives nothing, a sum ends before it
 cut_at : (f : ℕ → ℕ) (n more : ℕ) → ((p : ℕ) → n ≤ p → p < n + more → f p ≡ 0)

@@ -4,15 +4,14 @@ ghost use Rattle.std.specs.Option.{option_map, unwrap_or};
 ghost use Rattle.bdb_format.specs.Terms.{blocks_of};
 ghost use Rattle.bdb_layout.specs.Blocks.{BeginsNoBlock, GoesOn, run_in};
 
-use crate::u16_at;
+use crate::{PageBytes, u16_at};
 use bdb_format::Order;
 use std::marker::Model;
 
 /// The data of a set on its page, in order, as slices of the page.
 #[derive(Drop)]
 pub struct DupBlocks<'a> {
-    rest: &'a [u8],
-    order: Order,
+    rest: PageBytes<'a>,
 }
 
 impl<'a> Model for DupBlocks<'a> {
@@ -23,9 +22,9 @@ impl<'a> Model for DupBlocks<'a> {
 
     ghost Value = { BlockRun };
 
-    ghost view = { λ it. run_in it.order (unwrap_or (blocks_of it.order it.rest.now) []) };
+    ghost view = { λ it. run_in it.rest.order (unwrap_or (blocks_of it.rest.order it.rest.bytes.now) []) };
 
-    ghost invariant = { λ it. IsSome (blocks_of it.order it.rest.now) };
+    ghost invariant = { λ it. IsSome (blocks_of it.rest.order it.rest.bytes.now) };
 }
 
 impl<'a> DupBlocks<'a> {
@@ -46,8 +45,10 @@ impl<'a> DupBlocks<'a> {
         ensures { result ≡ run_in order (unwrap_or (blocks_of order blocks.now) []) }
     {
         DupBlocks {
-            rest: blocks,
-            order,
+            rest: PageBytes {
+                bytes: blocks,
+                order,
+            },
         }
     }
 
@@ -55,17 +56,14 @@ impl<'a> DupBlocks<'a> {
     pub fn bytes(&self) -> &'a [u8]
         ensures { blocks_of self.now.order result.now ≡ Some self.now.blocks }
     {
-        self.rest
+        self.rest.bytes
     }
 
     /// The blocks that are left, once more.
     pub fn again(&self) -> DupBlocks<'a>
         ensures { result ≡ self.now }
     {
-        DupBlocks {
-            rest: self.rest,
-            order: self.order,
-        }
+        DupBlocks { rest: self.rest }
     }
 }
 
@@ -77,8 +75,8 @@ impl<'a> Iterator for DupBlocks<'a> {
     ghost remaining = { item_count (λ left. left.blocks) };
 
     fn next(&mut self) -> Option<&'a [u8]> {
-        let (block, rest) = first_block(self.rest, self.order)?;
-        self.rest = rest;
+        let (block, rest) = first_block(self.rest.bytes, self.rest.order)?;
+        self.rest.bytes = rest;
         Some(block)
     }
 }

@@ -13,6 +13,7 @@ pub mod laws;
 mod leaf;
 mod lengths;
 mod numbers;
+mod page_bytes;
 mod page_header;
 mod recno;
 mod writing;
@@ -33,6 +34,7 @@ pub use lengths::{
     internal_end, leaf_end, pad4, page_slice, recno_end, records_per_page, slot_size,
 };
 pub use numbers::{put_u16, put_u32, u16_at, u32_at};
+pub use page_bytes::PageBytes;
 pub use page_header::{header, page_type};
 pub use recno::{known_recno_item, recno_item, recno_row};
 pub use writing::{put_hash_item, put_header, put_internal_item, put_leaf_item, put_recno_item};

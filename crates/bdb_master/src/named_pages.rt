@@ -13,18 +13,10 @@ use std::collections::BTreeMap;
 use std::marker::Model;
 
 /// The pages that the data of a master name. Of chains they are kept by their heads: each is read once, however many pairs have it.
+#[derive(Drop)]
 pub(crate) struct NamedPages<'a> {
     forest: Forest<'a>,
     chains: BTreeMap<u32, Option<u32>>,
-}
-
-impl Drop for NamedPages<'_> {
-    fn drop(self) {
-        let NamedPages {
-            forest: _forest,
-            chains: _chains,
-        } = self;
-    }
 }
 
 impl<'a> Model for NamedPages<'a> {

@@ -14,20 +14,11 @@ use std::collections::BTreeSet;
 use std::marker::Model;
 
 /// The names seen so far, and the heads of those that are chains: a chain that was seen isn't read again.
+#[derive(Drop)]
 pub(crate) struct SeenNames<'a> {
     forest: Forest<'a>,
     keys: Keys<'a>,
     heads: BTreeSet<u32>,
-}
-
-impl Drop for SeenNames<'_> {
-    fn drop(self) {
-        let SeenNames {
-            forest: _forest,
-            keys: _keys,
-            heads: _heads,
-        } = self;
-    }
 }
 
 impl<'a> Model for SeenNames<'a> {

@@ -4,8 +4,8 @@ use Rattle.std.proofs.Common.{◌≡◌, ℕ, List, [], ◌∷◌, ◌++◌, ◌
 use Rattle.bdb_layout.specs.of_format.declared.metadata.MetaFault.{MetaFault}
 use Rattle.bdb_layout.specs.of_format.declared.kinds.Order.{Order}
 use Rattle.bdb_layout.specs.of_format.declared.metadata.FileKind.{FileKind}
-use Rattle.bdb_layout.specs.of_format.Terms.{Row, answer, faulted, first_row, head_rows, kind_rows, metadata_rows}
-use Rattle.bdb_meta.specs.RowGroups.{common_rows, length_rows, page_rows, version_rows}
+use Rattle.bdb_layout.specs.of_format.Terms.{Row, answer, coded, faulted, first_row, head_rows, kind_rows, metadata_rows}
+use Rattle.bdb_meta.specs.RowGroups.{common_rows, left_out, length_rows, page_rows, version_rows}
 
 -- rows that hold nowhere are passed
 pub answer-passed : {T : Type 0} → (xs ys : List (Row ℕ)) (value : T) → answer {T = Unit {0}} xs tt ≡ Ok tt → answer (xs ++ ys) value ≡ answer ys value
@@ -80,3 +80,9 @@ pub metadata-kind : {T : Type 0} → (order : Order) (page : List ℕ) (number l
     → answer {T = Unit {0}} (common_rows order page number kind) tt ≡ Ok tt
     → answer (metadata_rows order page number last kind) value ≡ answer (kind_rows order page number last kind) value
 metadata-kind order page number last kind value common = grind (arith, metadata-groups, answer-passed)
+
+-- what isn't read, by the codes of its rows
+pub coded_left_out : {R : Type 0} (code : R → ℕ) (a b c : R) (order : Order) (page : List ℕ)
+    → coded code (answer {T = Unit {0}} (left_out a b c order page) tt)
+    ≡ answer {T = Unit {0}} (left_out (code a) (code b) (code c) order page) tt
+coded_left_out code a b c order page = grind arith

@@ -15,15 +15,20 @@ version_rows image =
     ∷ 4 :? not (four_at (order_of image) image 16 == version_of (file_kind (magic_at image)))
     ∷ []
 
+-- what isn't read of any file: its pages are encrypted or have checksums, or it is partitioned
+abbrev pub left_out : {R : Type 0} → R → R → R → Order → List ℕ → List (Row R)
+left_out encryption checksum partition order page =
+    encryption :? not (byte_at page 24 == 0)
+    ∷ checksum :? has_bit (byte_at page 26) 0x01
+    ∷ partition :? (has_bit (byte_at page 26) 0x06 || not (four_at order page 36 == 0))
+    ∷ []
+
 -- the page size, and what is asked of the pages
 abbrev pub page_rows : List ℕ → List (Row ℕ)
 page_rows image =
     5 :? not (is_page_size (four_at (order_of image) image 20) || four_at (order_of image) image 20 == 65536)
     ∷ 6 :? (four_at (order_of image) image 20 == 65536)
-    ∷ 7 :? not (byte_at image 24 == 0)
-    ∷ 8 :? has_bit (byte_at image 26) 0x01
-    ∷ 9 :? (has_bit (byte_at image 26) 0x06 || not (four_at (order_of image) image 36 == 0))
-    ∷ []
+    ∷ left_out 7 8 9 (order_of image) image
 
 -- the length of the image
 abbrev pub length_rows : List ℕ → List (Row ℕ)

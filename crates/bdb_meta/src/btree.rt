@@ -5,7 +5,7 @@ ghost use Rattle.bdb_meta.specs.RowGroups.{flag_rows};
 ghost use Rattle.bdb_layout.specs.of_format.declared.metadata.FileKind.TheVariants.{Btree};
 
 use crate::generic::{Generic, check_common, has_bit, put_generic};
-use bdb_layout::{BtreeMeta, FileKind, FormRow, MetaFault, Order, put_u32, u32_at};
+use bdb_layout::{BtreeMeta, FileKind, FormRow, MetaFault, Order, PageBytes, put_u32};
 
 /// Whether flags aren't known or don't go together.
 fn are_wrong_flags(number: u32, flags: u32) -> bool
@@ -36,13 +36,14 @@ pub fn btree_fields(page: &[u8], order: Order) -> BtreeMeta
     requires { 92 ≤ length page.now }
     ensures { result ≡ btree_fields order page.now }
 {
+    let page = PageBytes { bytes: page, order };
     BtreeMeta {
-        flags: u32_at(page, 48, order),
-        minkey: u32_at(page, 76, order),
-        re_len: u32_at(page, 80, order),
-        re_pad: u32_at(page, 84, order),
-        root: u32_at(page, 88, order),
-        free: u32_at(page, 28, order),
+        flags: page.u32_at(48),
+        minkey: page.u32_at(76),
+        re_len: page.u32_at(80),
+        re_pad: page.u32_at(84),
+        root: page.u32_at(88),
+        free: page.u32_at(28),
     }
 }
 

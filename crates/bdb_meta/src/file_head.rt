@@ -3,7 +3,7 @@ ghost use Rattle.bdb_layout.specs.of_format.Terms.{answer, coded, faulted, file_
 ghost use Rattle.bdb_layout.specs.of_format.Terms.{is_page_size, is_past, last_page, order_of, pages_of};
 ghost use Rattle.bdb_meta.specs.RowGroups.{length_rows, page_rows, version_rows};
 
-use crate::generic::{CHECKSUM, has_bit, is_partitioned, version_of};
+use crate::generic::{check_left_out, version_of};
 use bdb_layout::{FileKind, FileRow, Head, MetaFault, Order, is_page_size, magic_of, u32_at};
 
 const HEAP_MAGIC: u32 = 0x074582;
@@ -108,6 +108,7 @@ fn check_version(image: &[u8], order: Order) -> Result<(), FileRow>
 }
 
 /// The page size and what is asked of the pages are read. A refusal is the row.
+#[tactic(auto, using(crate::proofs::RowLemmas::coded_left_out))]
 fn check_pages(image: &[u8], order: Order) -> Result<(), FileRow>
     requires page { 512 ≤ length image.now }
     requires order { order ≡ order_of image.now }
@@ -121,16 +122,13 @@ fn check_pages(image: &[u8], order: Order) -> Result<(), FileRow>
     if size == LARGE_PAGE {
         return Err(FileRow::LargePage);
     }
-    if image[24] != 0 {
-        return Err(FileRow::Encryption);
-    }
-    if has_bit(u32::from(image[26]), CHECKSUM) {
-        return Err(FileRow::Checksum);
-    }
-    if is_partitioned(image, order) {
-        return Err(FileRow::Partition);
-    }
-    Ok(())
+    check_left_out(
+        image,
+        order,
+        FileRow::Encryption,
+        FileRow::Checksum,
+        FileRow::Partition,
+    )
 }
 
 /// Whether the last page isn't there. A queue goes to the end of its file.

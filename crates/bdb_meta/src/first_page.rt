@@ -1,7 +1,7 @@
 //! What page 0 says of a file that isn't read whole.
-ghost use Rattle.std.specs.Prelude.{◌≡◌, ◌≤◌, length};
-ghost use Rattle.bdb_layout.specs.of_format.Terms.{first_row};
-ghost use Rattle.bdb_layout.specs.of_format.declared.metadata.FileKind.TheVariants.{Btree, Hash, Queue};
+ghost use Rattle.std.specs.Prelude.{◌≡◌, ◌≤◌, ◌∷◌, [], length};
+ghost use Rattle.bdb_layout.specs.of_format.Terms.{first_row, ◌:?◌};
+ghost use Rattle.bdb_layout.specs.of_format.declared.metadata.FileKind.TheVariants.{Queue};
 ghost use Rattle.bdb_meta.specs.FirstPage.{common_cases, first_page_case, first_page_is_queue_or_master, is_queue_or_master, kind_cases};
 
 use crate::file_head::file_kind;
@@ -30,28 +30,11 @@ fn common_case(kind: FileKind, page: &[u8], order: Order) -> Option<Unsupported>
     None
 }
 
-/// The case of the metadata of a btree.
-fn btree_case(page: &[u8], order: Order) -> Option<Unsupported>
-    requires { 512 ≤ length page.now }
-    ensures { result ≡ first_row (kind_cases Btree order page.now) }
+/// A case, where it holds.
+fn case_if(case: Unsupported, holds: bool) -> Option<Unsupported>
+    ensures { result ≡ first_row (case :? holds ∷ []) }
 {
-    if has_bit(u32_at(page, 48, order), BtreeMeta::COMPRESSED) {
-        Some(Unsupported::Compression)
-    } else {
-        None
-    }
-}
-
-/// The case of the metadata of a hash.
-fn hash_case(page: &[u8], order: Order) -> Option<Unsupported>
-    requires { 512 ≤ length page.now }
-    ensures { result ≡ first_row (kind_cases Hash order page.now) }
-{
-    if u32_at(page, 92, order) != CHARKEY {
-        Some(Unsupported::OwnHash)
-    } else {
-        None
-    }
+    if holds { Some(case) } else { None }
 }
 
 /// The case of the metadata of a queue.
@@ -75,8 +58,11 @@ fn kind_case(kind: FileKind, page: &[u8], order: Order) -> Option<Unsupported>
     ensures { result ≡ first_row (kind_cases kind order page.now) }
 {
     match kind {
-        FileKind::Btree => btree_case(page, order),
-        FileKind::Hash => hash_case(page, order),
+        FileKind::Btree => case_if(
+            Unsupported::Compression,
+            has_bit(u32_at(page, 48, order), BtreeMeta::COMPRESSED),
+        ),
+        FileKind::Hash => case_if(Unsupported::OwnHash, u32_at(page, 92, order) != CHARKEY),
         FileKind::Queue => queue_case(page, order),
     }
 }

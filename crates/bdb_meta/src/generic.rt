@@ -1,7 +1,7 @@
 ghost use Rattle.std.specs.Prelude.{◌≡◌, ◌==◌, ◌≤◌, ◌<◌, ◌^◌, ◌-◌, ◌++◌, ◌||◌, length, not, IsTrue};
 ghost use Rattle.bdb_layout.specs.of_format.Terms.{answer, byte_at, coded, common_bytes, form_row_code, four_at, has_bit, identity_rows, is_zero, last_field};
 ghost use Rattle.bdb_layout.specs.of_format.Terms.{magic_of, meta_rows, type_of, version_of, zeros};
-ghost use Rattle.bdb_meta.specs.RowGroups.{common_rows};
+ghost use Rattle.bdb_meta.specs.RowGroups.{common_rows, left_out};
 
 use bdb_layout::{FileKind, FormRow, Order, PageType, magic_of, put_u32, u32_at};
 
@@ -61,7 +61,31 @@ fn check_identity(page: &[u8], order: Order, number: u32, kind: FileKind) -> Res
     Ok(())
 }
 
+/// Pages aren't encrypted and have no checksums, and the file isn't partitioned. A refusal is the row that is given for the first that is so.
+pub(crate) fn check_left_out<R: Copy>(
+    page: &[u8],
+    order: Order,
+    encryption: R,
+    checksum: R,
+    partition: R,
+) -> Result<(), R>
+    requires { 40 ≤ length page.now }
+    ensures { result ≡ answer (left_out encryption checksum partition order page.now) tt }
+{
+    if page[24] != 0 {
+        return Err(encryption);
+    }
+    if has_bit(u32::from(page[26]), CHECKSUM) {
+        return Err(checksum);
+    }
+    if is_partitioned(page, order) {
+        return Err(partition);
+    }
+    Ok(())
+}
+
 /// The rows of all metadata hold nowhere. A refusal is the first that does.
+#[tactic(auto, using(crate::proofs::RowLemmas::coded_left_out))]
 fn check_generic(page: &[u8], order: Order, number: u32, kind: FileKind) -> Result<(), FormRow>
     requires { 40 ≤ length page.now }
     ensures { coded form_row_code result ≡ answer (meta_rows order page.now number kind) tt }
@@ -75,16 +99,13 @@ fn check_generic(page: &[u8], order: Order, number: u32, kind: FileKind) -> Resu
     if u32_at(page, 20, order) as usize != page.len() {
         return Err(FormRow::MetaPageSize);
     }
-    if page[24] != 0 {
-        return Err(FormRow::Encryption);
-    }
-    if has_bit(u32::from(page[26]), CHECKSUM) {
-        return Err(FormRow::Checksum);
-    }
-    if is_partitioned(page, order) {
-        return Err(FormRow::Partition);
-    }
-    Ok(())
+    check_left_out(
+        page,
+        order,
+        FormRow::Encryption,
+        FormRow::Checksum,
+        FormRow::Partition,
+    )
 }
 
 /// No row of any metadata holds for this page. A refusal is the first that does.

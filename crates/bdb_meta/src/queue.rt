@@ -5,7 +5,7 @@ ghost use Rattle.bdb_layout.specs.of_format.declared.metadata.FileKind.TheVarian
 
 use crate::generic::{Generic, check_common, put_generic};
 use bdb_layout::{
-    FileKind, FormRow, MetaFault, Order, QueueMeta, put_u32, records_per_page, u32_at,
+    FileKind, FormRow, MetaFault, Order, PageBytes, QueueMeta, put_u32, records_per_page, u32_at,
 };
 
 /// The rows of queue metadata alone hold nowhere. A refusal is the first that does.
@@ -36,12 +36,13 @@ pub fn queue_fields(page: &[u8], order: Order) -> QueueMeta
     requires { 92 ≤ length page.now }
     ensures { result ≡ queue_fields order page.now }
 {
+    let page = PageBytes { bytes: page, order };
     QueueMeta {
-        first: u32_at(page, 72, order),
-        current: u32_at(page, 76, order),
-        re_len: u32_at(page, 80, order),
-        re_pad: u32_at(page, 84, order),
-        per_page: u32_at(page, 88, order),
+        first: page.u32_at(72),
+        current: page.u32_at(76),
+        re_len: page.u32_at(80),
+        re_pad: page.u32_at(84),
+        per_page: page.u32_at(88),
     }
 }
 

@@ -5,7 +5,9 @@ ghost use Rattle.std.specs.List.{flat_map};
 ghost use Rattle.bdb_layout.specs.of_format.declared.metadata.FileKind.TheVariants.{Hash};
 
 use crate::generic::{Generic, check_common, put_generic};
-use bdb_layout::{FileKind, FormRow, HashMeta, MetaFault, Order, group_of, put_u32, u32_at};
+use bdb_layout::{
+    FileKind, FormRow, HashMeta, MetaFault, Order, PageBytes, group_of, put_u32, u32_at,
+};
 
 /// The hash of a fixed text, by which a file tells its hash function.
 pub(crate) const CHARKEY: u32 = 0x5e688dd1;
@@ -79,14 +81,15 @@ pub fn hash_fields(page: &[u8], order: Order) -> HashMeta
     requires { 224 ≤ length page.now }
     ensures { result ≡ hash_fields order page.now }
 {
+    let page = PageBytes { bytes: page, order };
     HashMeta {
-        flags: u32_at(page, 48, order),
-        max_bucket: u32_at(page, 72, order),
-        high_mask: u32_at(page, 76, order),
-        low_mask: u32_at(page, 80, order),
-        ffactor: u32_at(page, 84, order),
-        spares: spares(page, order),
-        free: u32_at(page, 28, order),
+        flags: page.u32_at(48),
+        max_bucket: page.u32_at(72),
+        high_mask: page.u32_at(76),
+        low_mask: page.u32_at(80),
+        ffactor: page.u32_at(84),
+        spares: spares(page.bytes, order),
+        free: page.u32_at(28),
     }
 }
 

@@ -6,7 +6,7 @@ ghost use Rattle.bdb_mktree.specs.of_pack.OnPages.{IsBegunOn};
 ghost use Rattle.bdb_mkhash.specs.Filling.{IsGrown};
 ghost use Rattle.bdb_mkhash.specs.Pages.{CanTakeContent, HoldsContentsOn, with_hash_page, with_next};
 
-use bdb_mktree::{HashItem, Header, PageType, Pages, put_u32};
+use bdb_mktree::{HashItem, PageType, Pages, put_u32};
 use std::alloc::AllocError;
 
 /// Adds a page of a table without items behind all pages, where a number is left for it, and answers that. `previous` is
@@ -18,22 +18,7 @@ pub(crate) fn add_page(pages: &mut Pages, previous: u32) -> Result<u32, AllocErr
     ensures holds { IfOk result (λ number. HoldsContentsOn pages.new number previous 0 []) }
     ensures few { IfOk result (λ _. length pages.old.pages < 2 ^ 21) }
 {
-    if pages.count() >= Pages::MAX {
-        return Err(AllocError);
-    }
-    let number = pages.add()?;
-    pages.begin(
-        number,
-        &Header {
-            number,
-            previous,
-            next: 0,
-            entries: 0,
-            high_free: 0,
-            level: 0,
-            page_type: PageType::UNSORTED_HASH,
-        },
-    );
+    let number = pages.add_begun(previous, 0, PageType::UNSORTED_HASH)?;
     Ok(number)
 }
 

@@ -10,7 +10,6 @@ ghost use Rattle.bdb_mkleaves.specs.declared.leaf_type.LeafType.TheVariants.{Pai
 
 use crate::LeafType;
 use bdb_pack::{LeafItem, Pages, put_u32};
-use bdb_places::Header;
 use std::alloc::AllocError;
 
 /// Adds a leaf without entries behind all pages, where a number is left for it, and answers that. `previous` is the leaf before it, 0 where it is
@@ -26,22 +25,7 @@ pub(crate) fn add_leaf(
     ensures holds { IfOk result (λ number. HoldsEntriesOn leaf_type pages.new number previous 0 []) }
     ensures long { IfOk result (λ number. length (bytes_of pages.new number) ≡ pages.old.size) }
 {
-    if pages.count() >= Pages::MAX {
-        return Err(AllocError);
-    }
-    let number = pages.add()?;
-    pages.begin(
-        number,
-        &Header {
-            number,
-            previous,
-            next: 0,
-            entries: 0,
-            high_free: 0,
-            level: 1,
-            page_type: leaf_type.number(),
-        },
-    );
+    let number = pages.add_begun(previous, 1, leaf_type.number())?;
     Ok(number)
 }
 

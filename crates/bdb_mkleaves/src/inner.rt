@@ -10,7 +10,7 @@ ghost use Rattle.bdb_mkleaves.specs.Inner.{CanTakeChild, HoldsChildrenOn, added_
 
 use bdb_law_levels::InnerType;
 use bdb_pack::{InternalItem, Pages, put_u16};
-use bdb_places::{Header, PageType, RecnoItem};
+use bdb_places::{PageType, RecnoItem};
 use std::alloc::AllocError;
 
 // The type byte of an internal page.
@@ -30,22 +30,7 @@ pub(crate) fn add_inner(pages: &mut Pages, inner: InnerType, level: u8) -> Resul
     ensures pages { IfOk result (λ _. pages.new ≡ with_inner inner pages.old level) }
     ensures holds { IfOk result (λ number. HoldsChildrenOn inner pages.new number level []) }
 {
-    if pages.count() >= Pages::MAX {
-        return Err(AllocError);
-    }
-    let number = pages.add()?;
-    pages.begin(
-        number,
-        &Header {
-            number,
-            previous: 0,
-            next: 0,
-            entries: 0,
-            high_free: 0,
-            level,
-            page_type: type_of(inner),
-        },
-    );
+    let number = pages.add_begun(0, level, type_of(inner))?;
     Ok(number)
 }
 

@@ -10,26 +10,17 @@ use crate::leaves::Leaves;
 use bdb_pack::{Pages, put_u32};
 use std::alloc::AllocError;
 
-/// Writes the number of a page.
-pub(crate) fn set_number(pages: &mut Pages, page: u32, number: u32)
+/// Writes four bytes of the header of a page: at 8 its number, at 12 that of the page before. The root of a counted tree is alone on its level, so
+/// it has at 12 how many entries the tree has.
+pub(crate) fn set_field(pages: &mut Pages, page: u32, at: usize, number: u32)
     requires page { page < length pages.old.pages }
+    requires header { at ≤ 16 }
     requires legal { IsTrue (is_page_size pages.old.size) }
     requires whole { AreWhole pages.old }
-    ensures { pages.new ≡ with_page pages.old page (with_field pages.old.order (bytes_of pages.old page) 8 number) }
+    ensures { pages.new ≡ with_page pages.old page (with_field pages.old.order (bytes_of pages.old page) at number) }
 {
     let order = pages.order();
-    put_u32(pages.page_mut(page), 8, order, number);
-}
-
-/// Writes how many entries a counted tree has, where the pages of a level have the one before them: its root is alone.
-pub(crate) fn set_sum(pages: &mut Pages, page: u32, sum: u32)
-    requires page { page < length pages.old.pages }
-    requires legal { IsTrue (is_page_size pages.old.size) }
-    requires whole { AreWhole pages.old }
-    ensures { pages.new ≡ with_page pages.old page (with_field pages.old.order (bytes_of pages.old page) 12 sum) }
-{
-    let order = pages.order();
-    put_u32(pages.page_mut(page), 12, order, sum);
+    put_u32(pages.page_mut(page), at, order, number);
 }
 
 // Makes a page one of zeros.
@@ -52,7 +43,7 @@ pub(crate) fn move_leaf(pages: &mut Pages, from: u32) -> Result<u32, AllocError>
         return Err(AllocError);
     }
     let number = pages.add_copy(from)?;
-    set_number(pages, number, number);
+    set_field(pages, number, 8, number);
     blank(pages, from);
     Ok(number)
 }

@@ -9,7 +9,7 @@ ghost use Rattle.bdb_mkleaves.specs.Inner.{child_cost};
 ghost use Rattle.bdb_mkleaves.specs.Levels.{AreChildren};
 
 use crate::levels::Child;
-use crate::moving::{set_number, set_sum};
+use crate::moving::set_field;
 use crate::tower::lay_levels;
 use bdb_law_levels::InnerType;
 use bdb_pack::Pages;
@@ -36,8 +36,8 @@ fn place_root(pages: &mut Pages, first: u32, root: u32, sum: u32)
     ensures { IsRootPlaced first root sum pages.old pages.new }
 {
     pages.copy_over(root, first);
-    set_number(pages, first, first);
-    set_sum(pages, first, sum);
+    set_field(pages, first, 8, first);
+    set_field(pages, first, 12, sum);
     pages.drop_last();
 }
 

@@ -8,10 +8,11 @@ ghost use Rattle.bdb_mkhash.specs.of_mkleaves.Units.{chain_pages};
 ghost use Rattle.bdb_mkhash.specs.of_mkleaves.declared.leaf_type.LeafType.TheVariants.{Records, SortedData};
 ghost use Rattle.bdb_need.specs.Counting.{data_units};
 
+use crate::count::Count;
 use crate::keyed_leaves::KeyedLeaves;
 use crate::open_page::OpenPage;
 use bdb_mkhash::{Values, chain_pages, key_item_cost, page_room, record_cost};
-use std::alloc::{AllocError, Global};
+use std::alloc::Global;
 
 /// The pages of the chains of data.
 pub fn data_chains(size: usize, values: Values<'_>) -> u128
@@ -29,7 +30,7 @@ pub fn data_chains(size: usize, values: Values<'_>) -> u128
 }
 
 // The leaves of sorted data, with the levels over them.
-fn sorted_pages(alloc: Global, size: usize, values: Values<'_>) -> Result<u128, AllocError>
+fn sorted_pages(alloc: Global, size: usize, values: Values<'_>) -> Count
     requires { IsTrue (is_page_size size) }
     ensures pages { IfOk result (λ pages. pages ≡ leaves_and_levels SortedData size (data_units (values_seen values.entry))) }
     ensures few { IfOk result (λ pages. pages ≤ 3 * (length (values_seen values.entry) + 1)) }
@@ -58,12 +59,7 @@ fn unsorted_pages(size: usize, values: Values<'_>) -> u128
 }
 
 /// The leaves of the tree of a key's data, with the levels over them. An error means that memory ran out.
-pub fn data_pages(
-    alloc: Global,
-    size: usize,
-    sorted: bool,
-    values: Values<'_>,
-) -> Result<u128, AllocError>
+pub fn data_pages(alloc: Global, size: usize, sorted: bool, values: Values<'_>) -> Count
     requires { IsTrue (is_page_size size) }
     ensures pages { IfOk result (λ pages. pages ≡ leaves_and_levels (set_type sorted) size (data_units (values_seen values.entry))) }
     ensures few { IfOk result (λ pages. pages ≤ 3 * (length (values_seen values.entry) + 1)) }
@@ -77,12 +73,7 @@ pub fn data_pages(
 }
 
 /// The pages of the tree of a key's data, with their chains.
-pub(crate) fn set_pages(
-    alloc: Global,
-    size: usize,
-    sorted: bool,
-    values: Values<'_>,
-) -> Result<u128, AllocError>
+pub(crate) fn set_pages(alloc: Global, size: usize, sorted: bool, values: Values<'_>) -> Count
     requires legal { IsTrue (is_page_size size) }
     requires short { All IsShort (values_seen values) }
     ensures pages { IfOk result (λ pages. pages ≡ set_pages size sorted (values_seen values.entry)) }

@@ -10,19 +10,14 @@ ghost use Rattle.bdb_mkhash.specs.of_mkleaves.declared.leaf_type.LeafType.TheVar
 ghost use Rattle.bdb_mkhash.specs.of_mktree.Lists.{HasBytes, keyed_units};
 ghost use Rattle.bdb_mkhash.specs.of_mktree.Units.{IsShortUnit};
 
+use crate::count::Count;
 use crate::data::{data_chains, set_pages};
 use crate::keyed_leaves::KeyedLeaves;
 use bdb_mkhash::{KeyGroup, PairSlice, chain_pages, key_item_cost, leaf_cost, page_room, run_at};
-use std::alloc::{AllocError, Global};
+use std::alloc::Global;
 
 // The pages of its own: the chains of the key and its data, and the tree of the data where there is one.
-fn own_pages(
-    alloc: Global,
-    run: &KeyGroup<'_>,
-    size: usize,
-    sorted: bool,
-    has_tree: bool,
-) -> Result<u128, AllocError>
+fn own_pages(alloc: Global, run: &KeyGroup<'_>, size: usize, sorted: bool, has_tree: bool) -> Count
     requires legal { IsTrue (is_page_size size) }
     requires short { IsShortUnit (KeyedUnit run.now.key.now (values_seen run.now.values)) }
     requires tree { has_tree ≡ has_own_tree size run.now.key.now (values_seen run.now.values) }
@@ -37,12 +32,7 @@ fn own_pages(
 }
 
 /// The pages of a btree with these pairs.
-pub(crate) fn keyed_pages(
-    alloc: Global,
-    size: usize,
-    sorted: bool,
-    pairs: PairSlice<'_>,
-) -> Result<u128, AllocError>
+pub(crate) fn keyed_pages(alloc: Global, size: usize, sorted: bool, pairs: PairSlice<'_>) -> Count
     requires legal { IsTrue (is_page_size size) }
     requires keys { All (λ pair. HasBytes pair.key) (pairs_of pairs) }
     requires short { All IsShortUnit (keyed_units (pairs_of pairs)) }

@@ -1,6 +1,7 @@
 //! How many pages loading needs, for every list of sections, before any page is built.
 #![tactic(auto)]
 
+mod count;
 mod data;
 mod keyed_leaves;
 mod keys;
@@ -24,6 +25,7 @@ pub use bdb_settle::{
     LoadError, filled, first_load_error, is_among_names, is_too_wide, ordered, page_size_in,
     settle, sooner_where, with_pairs,
 };
+pub use count::Count;
 pub use data::{data_chains, data_pages};
 pub use master::{is_short, master_settings, name_of};
 pub use queue::queue_pages;

@@ -4,6 +4,7 @@ ghost use Rattle.bdb_mkhash.specs.of_format.Terms.{is_page_size};
 ghost use Rattle.bdb_mkhash.specs.of_text_format.Terms.{pair_seen};
 ghost use Rattle.bdb_need.specs.Need.{is_short, master_pages, master_settings, name_in, name_pair};
 
+use crate::count::Count;
 use crate::trees::tree_pages;
 use bdb_mkhash::{
     KeyRef, Kind, Order, PairRef, Section, Sections, Settings, TextPairs, plain_settings,
@@ -69,11 +70,7 @@ fn name_pairs(alloc: Global, sections: &[Section]) -> Result<TextPairs, AllocErr
 
 /// How many pages the tree of the master has: its pairs are the names, in byte order. It is refused where one has 2^32 bytes or more: no run of pairs
 /// has room for it.
-pub(crate) fn master_pages(
-    alloc: Global,
-    size: u32,
-    sections: &[Section],
-) -> Result<u128, AllocError>
+pub(crate) fn master_pages(alloc: Global, size: u32, sections: &[Section]) -> Count
     requires { IsTrue (is_page_size size) }
     ensures pages { IfOk result (λ pages. pages ≡ master_pages size sections.now) }
     ensures few { IfOk result (λ pages. pages < 2 ^ 100) }

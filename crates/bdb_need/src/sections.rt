@@ -5,6 +5,7 @@ ghost use Rattle.bdb_need.specs.Need.{AreSettled, IsListOf, IsSettled, list_page
 ghost use Rattle.bdb_need.specs.TreePages.{unlined_pairs};
 ghost use Rattle.bdb_settle.specs.Loaded.{filled_pairs, filled_section};
 
+use crate::count::Count;
 use crate::master::master_pages;
 use crate::queue::queue_pages;
 use crate::table::table_pages;
@@ -13,7 +14,7 @@ use bdb_mkhash::{Kind, Section, Sections, Settings, TextPairs};
 use std::alloc::{AllocError, Global};
 
 // The pages of the database of a list once its records are filled up, its metadata not counted.
-fn list_pages(alloc: Global, settings: &Settings, list: &TextPairs) -> Result<u128, AllocError>
+fn list_pages(alloc: Global, settings: &Settings, list: &TextPairs) -> Count
     requires legal { IsTrue (is_page_size settings.now.page_size) }
     requires list { IsListOf settings.now.kind settings.now (unlined_pairs (filled_pairs settings.now list.now)) }
     ensures pages { IfOk result (λ pages. pages ≡ list_pages settings.now.kind settings.now (unlined_pairs (filled_pairs settings.now list.now))) }
@@ -36,7 +37,7 @@ fn sized(size: u32, section: &Section) -> Settings
 }
 
 // The pages of sections once their records are filled up, each with its metadata.
-fn sections_pages(alloc: Global, size: u32, sections: &[Section]) -> Result<u128, AllocError>
+fn sections_pages(alloc: Global, size: u32, sections: &[Section]) -> Count
     requires legal { IsTrue (is_page_size size) }
     requires each { All (λ section. IsSettled size (filled_section section)) sections.now }
     ensures { IfOk result (λ pages. pages ≡ sum_by (λ section. section_pages size (filled_section section)) sections.now) }

@@ -9,21 +9,16 @@ ghost use Rattle.bdb_mkhash.specs.Costs.{keyed_own_pages};
 ghost use Rattle.bdb_mkhash.specs.Table.{IsTableList};
 ghost use Rattle.bdb_need.specs.TreePages.{unlined_pairs};
 
+use crate::count::Count;
 use crate::units::keyed_own_pages;
 use bdb_mkhash::{
     PairSlice, Settings, TextPairs, bucket_among, bucket_count, keyed_cost, page_room, run_at,
     table_bits,
 };
-use std::alloc::{AllocError, Global};
+use std::alloc::Global;
 
 // The pages of a table where the number of a bucket has so many bits: for each bucket the room that is left on its open page is kept.
-fn all_pages(
-    alloc: Global,
-    size: usize,
-    sorted: bool,
-    bits: u32,
-    pairs: PairSlice<'_>,
-) -> Result<u128, AllocError>
+fn all_pages(alloc: Global, size: usize, sorted: bool, bits: u32, pairs: PairSlice<'_>) -> Count
     requires legal { IsTrue (is_page_size size) }
     requires some { 1 ≤ bits }
     requires few { bits ≤ 31 }
@@ -58,7 +53,7 @@ fn all_pages(
 
 /// How many pages the table of a list has, its metadata not counted: those of its buckets, the chains and the trees of data.
 /// An error means that memory ran out.
-pub fn table_pages(alloc: Global, settings: &Settings, list: &TextPairs) -> Result<u128, AllocError>
+pub fn table_pages(alloc: Global, settings: &Settings, list: &TextPairs) -> Count
     requires legal { IsTrue (is_page_size settings.now.page_size) }
     requires list { IsTableList settings.now (unlined_pairs list.now) }
     ensures pages { IfOk result (λ pages. pages ≡ table_size settings.now.page_size settings.now.sorted (table_units (unlined_pairs list.now))) }

@@ -6,18 +6,15 @@ ghost use Rattle.bdb_mkhash.specs.of_mktree.Units.{IsTreeKind, leaf_type_of};
 ghost use Rattle.bdb_need.specs.TreePages.{unlined_pairs, tree_pages};
 ghost use Rattle.bdb_settle.specs.Loaded.{filled_pairs};
 
+use crate::count::Count;
 use crate::keys::keyed_pages;
 use crate::records::record_pages;
 use bdb_mkhash::{Kind, Settings, TextPairs};
-use std::alloc::{AllocError, Global};
+use std::alloc::Global;
 
 /// How many pages the tree of a list has once its records are filled up, its root and the chains and trees of its data among them. No
 /// record is filled up for that. An error means that memory ran out.
-pub fn filled_tree_pages(
-    alloc: Global,
-    settings: &Settings,
-    list: &TextPairs,
-) -> Result<u128, AllocError>
+pub fn filled_tree_pages(alloc: Global, settings: &Settings, list: &TextPairs) -> Count
     requires kind { IsTreeKind settings.now.kind }
     requires legal { IsTrue (is_page_size settings.now.page_size) }
     requires list { IsTreeList settings.now (unlined_pairs (filled_pairs settings.now list.now)) }
@@ -34,7 +31,7 @@ pub fn filled_tree_pages(
 
 /// How many pages the tree of a list has, its root and the chains and trees of its data among them. An error means
 /// that memory ran out.
-pub fn tree_pages(alloc: Global, settings: &Settings, list: &TextPairs) -> Result<u128, AllocError>
+pub fn tree_pages(alloc: Global, settings: &Settings, list: &TextPairs) -> Count
     requires kind { IsTreeKind settings.now.kind }
     requires legal { IsTrue (is_page_size settings.now.page_size) }
     requires list { IsTreeList settings.now (unlined_pairs list.now) }

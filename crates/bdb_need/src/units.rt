@@ -5,17 +5,13 @@ ghost use Rattle.bdb_mkhash.specs.of_places.Places.{values_seen};
 ghost use Rattle.bdb_mkhash.specs.of_mkleaves.Runs.{IsShort};
 ghost use Rattle.bdb_mkhash.specs.Costs.{data_form, keyed, keyed_own_pages, pages_in};
 
+use crate::count::Count;
 use crate::data::set_pages;
 use bdb_mkhash::{DataForm, KeyGroup, Values, chain_pages, data_form};
-use std::alloc::{AllocError, Global};
+use std::alloc::Global;
 
 // The pages that the data of a key have of their own: chains, and the tree of them.
-fn data_own_pages(
-    alloc: Global,
-    size: usize,
-    sorted: bool,
-    values: Values<'_>,
-) -> Result<u128, AllocError>
+fn data_own_pages(alloc: Global, size: usize, sorted: bool, values: Values<'_>) -> Count
     requires legal { IsTrue (is_page_size size) }
     requires some { 0 < length (values_seen values) }
     requires short { All IsShort (values_seen values) }
@@ -31,12 +27,7 @@ fn data_own_pages(
 }
 
 /// The pages that a key and its data have of their own.
-pub(crate) fn keyed_own_pages(
-    alloc: Global,
-    size: usize,
-    sorted: bool,
-    run: &KeyGroup<'_>,
-) -> Result<u128, AllocError>
+pub(crate) fn keyed_own_pages(alloc: Global, size: usize, sorted: bool, run: &KeyGroup<'_>) -> Count
     requires legal { IsTrue (is_page_size size) }
     requires some { 0 < length (values_seen run.now.values) }
     requires key { IsShort run.now.key.now }

@@ -33,13 +33,9 @@ use Rattle.bdb_law_kept.proofs.SoundLemmas.{forest_of, has_fields}
 use Rattle.bdb_law_kept.proofs.WrittenLemmas.{NumbersFit, btree_pairs, hash_pairs, numbers_fit, queue_pairs, recno_pairs, sorted_set}
 use Rattle.bdb_onto.specs.declared.base.Base.{Base}
 use Rattle.bdb_onto.specs.Bases.{IsBase, base_section, text_pair}
+use Rattle.bdb_format.proofs.BoolLemmas.{so_second}
 
 -- Settings of each kind.
-
-so : (a b : Bool) → (a && not b) ≡ false → a ≡ true → b ≡ true
-so true true none is = refl
-so true false none is = absurd (cc none)
-so false b none is = absurd (cc is)
 
 low_flags : (number flags : ℕ) → are_wrong_flags number flags ≡ false → flags < 256
 low_flags number flags fit = grind (arith, nat_tests, fit)
@@ -51,7 +47,7 @@ btree_fits : (size : ℕ) (order : Order) (meta : BtreeMeta) (p : ℕ) → is_pa
     → AreFitSettings (btree_settings size order meta)
 btree_fits size order meta p legal flags = record {
   page_size = legal;
-  sorted = λ is. so (has_bit meta.flags 0x40) (has_bit meta.flags 0x41) (sorted_set meta.flags (low_flags p meta.flags flags)) is;
+  sorted = λ is. so_second (has_bit meta.flags 0x40) (has_bit meta.flags 0x41) (sorted_set meta.flags (low_flags p meta.flags flags)) is;
   counted = λ is. not_counted p meta.flags flags is;
   records = λ is. absurd (cc is);
   re_len = omega arith;
@@ -76,7 +72,7 @@ sorted_table flags low =
 hash_fits : (size : ℕ) (order : Order) (meta : HashMeta) → is_page_size size ≡ true → meta.flags < 8 → AreFitSettings (hash_settings size order meta)
 hash_fits size order meta legal low = record {
   page_size = legal;
-  sorted = λ is. so (has_bit meta.flags 0x04) (has_bit meta.flags 0x05) (sorted_table meta.flags low) is;
+  sorted = λ is. so_second (has_bit meta.flags 0x04) (has_bit meta.flags 0x05) (sorted_table meta.flags low) is;
   counted = λ is. absurd (cc is);
   records = λ is. absurd (cc is);
   re_len = omega arith;

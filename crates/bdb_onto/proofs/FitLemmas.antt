@@ -1,5 +1,5 @@
 -- The joined sections can be loaded.
-use Rattle.std.proofs.Common.{◌≡◌, ℕ, ◌+◌, ◌≤◌, Bool, true, false, cond, not, List, [], ◌∷◌, ◌++◌, length, map, Option, Some, None, refl, sym, ◌∙◌, ap, subst}
+use Rattle.std.proofs.Common.{◌≡◌, ℕ, ◌+◌, ◌≤◌, Bool, true, false, not, List, [], ◌∷◌, ◌++◌, length, map, Option, Some, None, refl, sym, ◌∙◌, ap, subst}
 use Rattle.std.proofs.Common.{arith, append-nil, append_assoc, ne_eqb, ◌&&◌, ◌||◌, ◌==◌, IsTrue, is_none, is_some}
 use Rattle.std.specs.List.{All, Contains, filter, list_any}
 use Rattle.std.proofs.lemmas.Bool.{or_from, or_parts}
@@ -14,10 +14,10 @@ use Rattle.bdb_format.proofs.MemberLemmas.{first_member, in_map, later_member, n
 use Rattle.bdb_mkfile.specs.of_text_format.declared.sections.Section.{Section}
 use Rattle.bdb_mkfile.specs.of_text_format.Terms.{holds_records, is_first}
 use Rattle.bdb_mkfile.specs.of_law_sections.Fit.{AreFitSettings, AreNamedBehind, IsFitPair, IsFitSection}
-use Rattle.bdb_mkfile.proofs.of_law_sections.PairLemmas.{fit_longer}
+use Rattle.bdb_mkfile.proofs.of_law_sections.PairLemmas.{section_longer}
 use Rattle.bdb_law_kept.specs.of_text.WrittenLaw.{AreNamedApart, CanStandTogether}
 use Rattle.bdb_law_kept.specs.Later.{AllLater}
-use Rattle.bdb_law_kept.proofs.LaterLemmas.{later_one}
+use Rattle.bdb_law_kept.proofs.LaterLemmas.{later_filter, later_one}
 use Rattle.bdb_law_kept.proofs.NameLemmas.{all_together}
 use Rattle.bdb_onto.specs.declared.base.Base.{Base}
 use Rattle.bdb_onto.specs.Bases.{IsBase, base_section}
@@ -92,14 +92,6 @@ behind names (section ∷ left) all new apart =
     )
 
 -- The names of a base differ.
-
-later_filter : {X : Type 0} (R : X → X → Type 0) (test : X → Bool) (xs : List X) → AllLater R xs → AllLater R (filter test xs)
-later_filter R test [] later = tt
-later_filter {X} R test (x ∷ xs) later = by_test (test x) (later_filter R test xs later.1)
-  where
-    by_test : (b : Bool) → AllLater R (filter test xs) → AllLater R (cond b (x ∷ filter test xs) (filter test xs))
-    by_test true rest = ((λ y at. later.0 y (of_filter test xs y at).0), rest)
-    by_test false rest = rest
 
 abbrev NamesDiffer : Database → Database → Type 0
 NamesDiffer a b = is_name b.name a.name ≡ false
@@ -184,12 +176,6 @@ names_behind base sections loadable master =
 
 -- Settings and pairs.
 
-more_section : (least most : ℕ) (section : Section) → least ≤ most → IsFitSection least section → IsFitSection most section
-more_section least most section low fit = record {
-  settings = fit.settings;
-  pairs = fit_longer (holds_records section.settings.kind) least most section.pairs low fit.pairs;
-}
-
 -- settings in the file of a base are as fit as they were
 in_base_fits : (base : Base) (settings : Settings) → IsTrue (is_page_size base.page_size) → AreFitSettings settings
     → AreFitSettings (in_base base settings)
@@ -251,7 +237,7 @@ module _ (base : Base) (most : ℕ) (section : Section) (legal : IsTrue (is_page
 fit_database : (base : Base) (most : ℕ) (fit : AreFitBase base) (database : Section) → fit.most ≤ most → Contains base.databases database
     → IsFitSection most database
 fit_database base most fit database low at =
-    more_section fit.most most database low (All-contains (IsFitSection fit.most) base.databases database fit.each at)
+    section_longer fit.most most database low (All-contains (IsFitSection fit.most) base.databases database fit.each at)
 
 fit_joined : (base : Base) (most : ℕ) (alone : Bool) (sections : List Section) → IsBase base → (fit : AreFitBase base) → fit.most ≤ most
     → All (IsFitSection most) sections → All (HasNoErrorsOnto base alone) sections
@@ -274,7 +260,7 @@ joined_are_loadable base sections loadable =
     let most : ℕ = loadable.fit.most + (base_fits base loadable.base_is).most in
     let least : All (IsFitSection most) sections =
     All-weaker (IsFitSection loadable.fit.most) (IsFitSection most)
-    (λ section one. more_section loadable.fit.most most section (omega arith) one) sections loadable.fit.fit.each in
+    (λ section one. section_longer loadable.fit.most most section (omega arith) one) sections loadable.fit.fit.each in
     let first : All (IsFitSection most) (map (joined_section base) sections) =
     fit_joined base most (length sections == 1) sections loadable.base_is (base_fits base loadable.base_is) (omega arith) least loadable.none in
     let left : List Section = filter (is_left sections) base.databases in

@@ -45,7 +45,8 @@ paged image forest = accepted_paged image (head_of image) (formed_accepted image
 pub legal_size : (image : List ℕ) → IsForest image → is_page_size (head_of image).page_size ≡ true
 legal_size image forest = (paged image forest).legal
 
-pages_is : (image : List ℕ) → (head_of image).pages ≡ length image / (head_of image).page_size
+-- how many pages the file has
+pub pages_is : (image : List ℕ) → (head_of image).pages ≡ length image / (head_of image).page_size
 unfolding head_of
 pages_is image = refl
 

@@ -12,11 +12,7 @@ use std::marker::Model;
 pub fn is_less(a: &Datum<'_>, b: &Datum<'_>) -> bool
     ensures { result ≡ less (datum_seen a.now) (datum_seen b.now) }
 {
-    match compare_datum(a, b) {
-        Ordering::Less => true,
-        Ordering::Equal => false,
-        Ordering::Greater => false,
-    }
+    matches!(compare_datum(a, b), Ordering::Less)
 }
 
 /// Whether two values are one.
@@ -24,11 +20,7 @@ pub fn is_less(a: &Datum<'_>, b: &Datum<'_>) -> bool
 pub fn is_same(a: &Datum<'_>, b: &Datum<'_>) -> bool
     ensures { result ≡ bytes_eq (datum_seen a.now) (datum_seen b.now) }
 {
-    match compare_datum(a, b) {
-        Ordering::Less => false,
-        Ordering::Equal => true,
-        Ordering::Greater => false,
-    }
+    matches!(compare_datum(a, b), Ordering::Equal)
 }
 
 /// A key, which is compared by its bytes.

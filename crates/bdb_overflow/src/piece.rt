@@ -115,6 +115,21 @@ impl<'a> Model for Pieces<'a> {
 
 #[tactic(auto, using(crate::proofs::WholeLemmas::none_left, crate::proofs::WholeLemmas::at_end))]
 impl<'a> Pieces<'a> {
+    // The pieces of what is left of a chain, from a page on.
+    fn over(image: &'a [u8], order: Order, size: u32, next: u32, taken: Taken) -> Pieces<'a>
+        requires left { IsLeft order size image.now next }
+        requires passed { ArePassedBy order size image.now taken }
+        ensures { result ≡ taken_pieces taken (pieces_from order size image.entry.now next) }
+    {
+        Pieces {
+            image,
+            order,
+            size,
+            next,
+            taken,
+        }
+    }
+
     /// No pieces.
     pub(crate) fn none() -> Pieces<'a>
         ensures { result ≡ [] }
@@ -196,13 +211,7 @@ pub fn pieces_at<'a>(image: &'a [u8], order: Order, page_size: u32, head: u32) -
     ensures pieces { result ≡ pieces_of (file_as order page_size image.now) head }
     ensures few { length result ≤ length image.now / page_size }
 {
-    Pieces {
-        image,
-        order,
-        size: page_size,
-        next: head,
-        taken: Taken::Each,
-    }
+    Pieces::over(image, order, page_size, head, Taken::Each)
 }
 
 /// The pieces of such a chain that have data. Pages that are known to have none are passed over.
@@ -220,13 +229,7 @@ pub(crate) fn full_pieces_at<'a>(
     ensures pieces { result ≡ full_pieces (pieces_of (file_as order page_size image.now) head) }
     ensures few { length result ≤ length image.now / page_size }
 {
-    Pieces {
-        image,
-        order,
-        size: page_size,
-        next: head,
-        taken: Taken::WithData(blanks),
-    }
+    Pieces::over(image, order, page_size, head, Taken::WithData(blanks))
 }
 
 impl<'a> Iterator for Pieces<'a> {

@@ -46,11 +46,7 @@ pub fn is_shared(forest: &Forest<'_>, head: u32) -> bool {
 fn is_less_inline(a: &[u8], b: &[u8]) -> bool
     ensures { result ≡ less a.now b.now }
 {
-    match compare(a, b) {
-        Ordering::Less => true,
-        Ordering::Equal => false,
-        Ordering::Greater => false,
-    }
+    matches!(compare(a, b), Ordering::Less)
 }
 
 impl<'a> Values<'a> {

@@ -1,9 +1,20 @@
 -- What is asked of a page among pages that are being built, and what an item makes of them.
 use Rattle.std.specs.Prelude.{ℕ, Bool, List, length}
+use Rattle.bdb_layout.specs.of_format.declared.pages.Header.{Header}
 use Rattle.bdb_layout.specs.of_format.Terms.{byte_at, entries_of}
-use Rattle.bdb_pack.specs.Built.{Built, bytes_of, with_page}
+use Rattle.bdb_pack.specs.Built.{Built, bytes_of, with_page, with_zeros}
 use Rattle.bdb_pack.specs.Items.{HasPlace, PageItem, holds_item}
-use Rattle.bdb_pack.specs.Placing.{HasRoom, IsBegun, has_room, page_and_item}
+use Rattle.bdb_pack.specs.Placing.{HasRoom, IsBegun, begun_page, has_room, page_and_item}
+
+-- the header of a page without entries
+abbrev pub first_header : ℕ → ℕ → ℕ → ℕ → Header
+first_header number previous level type =
+    record { number = number; previous = previous; next = 0; entries = 0; high_free = 0; level = level; page_type = type }
+
+-- with a page at the end that begins with this header
+abbrev pub with_begun : Built → Header → Built
+with_begun built header =
+    with_page (with_zeros built) header.number (begun_page built.order (bytes_of (with_zeros built) header.number) header)
 
 -- the page with this number is begun
 abbrev pub IsBegunOn : Built → ℕ → Type 0

@@ -6,7 +6,7 @@ ghost use Rattle.bdb_layout.specs.of_format.Terms.{is_page_size, is_zero, leaf_b
 ghost use Rattle.bdb_layout.specs.of_format.declared.kinds.Order.{Order as ByteOrder};
 ghost use Rattle.bdb_layout.specs.Seen.{HasOrder, hash_content_seen, internal_item_seen, leaf_item_seen};
 ghost use Rattle.bdb_pack.specs.Items.{IsWritable, OnHash, OnInternal, OnLeaf, OnRecno, extent, takes_items};
-ghost use Rattle.bdb_pack.specs.OnPages.{HasPlaceOn, HasRoomOn, IsBegunOn, has_room_on, holds_on, with_item_on};
+ghost use Rattle.bdb_pack.specs.OnPages.{HasPlaceOn, HasRoomOn, IsBegunOn, first_header, has_room_on, holds_on, with_begun, with_item_on};
 ghost use Rattle.bdb_pack.specs.Placing.{CanShare, HasRoom, IsOpen, begun_page, entered, has_room, high_free_of, page_and_item, page_and_shared, place_below};
 ghost use Rattle.bdb_pack.specs.Built.{AreWhole, bytes_of, joined_pages, with_copy, with_page, with_zeros, without_last};
 
@@ -197,6 +197,34 @@ impl Pages {
         let order = self.order;
         let page = self.page_mut(number);
         put_begun(page, order, header);
+    }
+
+    /// A page without entries at the end, which is begun, and its number. It is refused where there are as many pages as a file may have. On a refusal
+    /// nothing is promised of the pages.
+    pub fn add_begun(&mut self, previous: u32, level: u8, page_type: u8) -> Result<u32, AllocError>
+        requires takes { IsTrue (takes_items page_type) }
+        ensures legal { IsTrue (is_page_size self.old.size) }
+        ensures few { IfOk result (λ _. length self.old.pages < 2 ^ 21) }
+        ensures number { IfOk result (λ number. number ≡ length self.old.pages) }
+        ensures begun { IfOk result (λ number. self.new ≡ with_begun self.old (first_header number previous level page_type)) }
+    {
+        if self.count() >= Pages::MAX {
+            return Err(AllocError);
+        }
+        let number = self.add()?;
+        self.begin(
+            number,
+            &Header {
+                number,
+                previous,
+                next: 0,
+                entries: 0,
+                high_free: 0,
+                level,
+                page_type,
+            },
+        );
+        Ok(number)
     }
 
     /// Adds an item at the end of a leaf: its bytes right below the other items, and its place at the end of the index.

@@ -9,20 +9,11 @@ use bdb_overflow::{Datum, Forest, KeyView, QueueMeta};
 use std::marker::Model;
 
 /// The live records of a queue that are left, each under its number.
+#[derive(Drop)]
 pub struct Scan<'a> {
     forest: Forest<'a>,
     meta: QueueMeta,
     next: SlotPlace,
-}
-
-impl Drop for Scan<'_> {
-    fn drop(self) {
-        let Scan {
-            forest: _forest,
-            meta: _meta,
-            next: _next,
-        } = self;
-    }
 }
 
 impl<'a> Model for Scan<'a> {

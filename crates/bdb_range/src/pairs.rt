@@ -17,22 +17,12 @@ use bdb_tree::{Leaves, leaves};
 use std::marker::Model;
 
 /// The pairs of so many leaves that are left, in order.
+#[derive(Drop)]
 struct SpanPairs<'a> {
     forest: Forest<'a>,
     here: Option<PagePairs<'a>>,
     leaves: Leaves<'a>,
     left: u32,
-}
-
-impl Drop for SpanPairs<'_> {
-    fn drop(self) {
-        let SpanPairs {
-            forest: _forest,
-            here: _here,
-            leaves: _leaves,
-            left: _left,
-        } = self;
-    }
 }
 
 impl<'a> Model for SpanPairs<'a> {
@@ -79,24 +69,13 @@ fn lies_between(from: &[u8], to: &[u8], key: &Datum<'_>) -> bool
 }
 
 /// The pairs of a range that are left: each key with each of its data.
+#[derive(Drop)]
 pub struct RangePairs<'a, 'k> {
     forest: Forest<'a>,
     from: &'k [u8],
     to: &'k [u8],
     here: Option<Entries<'a>>,
     pairs: SpanPairs<'a>,
-}
-
-impl Drop for RangePairs<'_, '_> {
-    fn drop(self) {
-        let RangePairs {
-            forest: _forest,
-            from: _from,
-            to: _to,
-            here: _here,
-            pairs: _pairs,
-        } = self;
-    }
 }
 
 impl<'a, 'k> Model for RangePairs<'a, 'k> {

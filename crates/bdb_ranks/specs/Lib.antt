@@ -1,3 +1,4 @@
+pub mod Order
 pub mod Ranks
 pub mod Shared
 pub use Rattle.bdb_tree.specs.of_form as of_form

@@ -1,32 +1,26 @@
 ghost use Rattle.std.specs.Prelude.{◌≡◌, IfOk, IfSome, List, ℕ};
+ghost use Rattle.std.specs.Option.{option_map};
 ghost use Rattle.bdb_tree.specs.of_format.Terms.{file_of, less};
 ghost use Rattle.bdb_tree.specs.of_image.Linked.{FitsChain};
-ghost use Rattle.bdb_tree.specs.of_overflow.Held.{FitsHeld, chain_value, value_held};
+ghost use Rattle.bdb_tree.specs.of_overflow.Held.{FitsAny, FitsHeld, chain_value, value_held};
+ghost use Rattle.bdb_ranks.specs.Order.{is_not_above};
 ghost use Rattle.bdb_ranks.specs.Ranks.{AreRanks};
 
 use crate::ranking::ranks_of;
-use bdb_tree::{Forest, Held, Values as OwnValues, is_shared};
+use bdb_tree::{Forest, Held, Values as OwnValues, compare, is_shared};
 use std::alloc::{AllocError, Global};
+use std::cmp::Ordering;
 use std::collections::BTreeMap;
 use std::marker::Model;
 
 /// The values of one file, to be compared. Chains that several items may name are ranked by one sort, once two of them are compared:
 /// from then on their ranks tell.
+#[derive(Drop)]
 pub struct Values<'a> {
     alloc: Global,
     values: OwnValues<'a>,
     // The ranks of shared chains by their heads.
     ranks: Option<BTreeMap<u32, usize>>,
-}
-
-impl Drop for Values<'_> {
-    fn drop(self) {
-        let Values {
-            alloc: _alloc,
-            values: _values,
-            ranks: _ranks,
-        } = self;
-    }
 }
 
 impl<'a> Model for Values<'a> {
@@ -39,6 +33,15 @@ impl<'a> Model for Values<'a> {
     ghost view = { λ v. v.values };
 
     ghost invariant = { λ v. ForSome v.ranks (AreRanks v.values) };
+}
+
+/// Whether bytes of pages are less than others.
+#[inline(always)]
+#[tactic(auto, using(crate::proofs::Below::is_less))]
+fn is_less_bytes(a: &[u8], b: &[u8]) -> bool
+    ensures { result ≡ less a.now b.now }
+{
+    matches!(compare(a, b), Ordering::Less)
 }
 
 impl<'a> Values<'a> {
@@ -60,8 +63,9 @@ impl<'a> Values<'a> {
         self.values.forest()
     }
 
-    /// Whether a value is less than another. Chains that are shared are compared by their ranks. An error means that memory ran out, for these
-    /// and for chains that begin with a blank page.
+    /// Whether a value is less than another. Most lie on their pages, and are compared without a look at what is known. Chains that are shared are
+    /// compared by their ranks. An error means that memory ran out, for these and for chains that begin with a blank page.
+    #[inline(always)]
     pub fn is_less(&mut self, a: Held<'_>, b: Held<'_>) -> Result<bool, AllocError>
         requires first { FitsHeld (file_of self.old) a }
         requires second { FitsHeld (file_of self.old) b }
@@ -69,8 +73,31 @@ impl<'a> Values<'a> {
         ensures same { self.new ≡ self.old }
     {
         match (a, b) {
+            (Held::Inline(a), Held::Inline(b)) => Ok(is_less_bytes(a, b)),
             (Held::Chained(a), Held::Chained(b)) => self.is_less_chain(a, b),
             _ => self.values.is_less(a, b),
+        }
+    }
+
+    /// Whether a value isn't above the one before it, where there is one. An error means that memory ran out, as above.
+    #[inline(always)]
+    pub fn is_not_above(
+        &mut self,
+        before: Option<Held<'_>>,
+        value: Held<'_>,
+    ) -> Result<bool, AllocError>
+        requires before { FitsAny (file_of self.old) before }
+        requires value { FitsHeld (file_of self.old) value }
+        ensures above { IfOk result (λ is. is ≡ is_not_above (option_map (value_held (file_of self.old)) before.entry)
+            (value_held (file_of self.old) value.entry)) }
+        ensures same { self.new ≡ self.old }
+    {
+        match before {
+            Some(before) => {
+                let is_below = self.is_less(before, value)?;
+                Ok(!is_below)
+            }
+            None => Ok(false),
         }
     }
 

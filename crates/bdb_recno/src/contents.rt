@@ -1,17 +1,14 @@
-ghost use Rattle.std.specs.Prelude.{◌≡◌, [], IfErr, IsTrue, OnOk, if◌then◌else◌};
+ghost use Rattle.std.specs.Prelude.{◌≡◌, [], IfErr, IsTrue, OnOk};
 ghost use Rattle.bdb_faults.specs.Notes.{HasNoted};
 ghost use Rattle.bdb_faults.specs.Notes.{NotesAll};
-ghost use Rattle.bdb_tree.specs.of_image.Linked.{HasMetadata, IsForest};
-ghost use Rattle.bdb_tree.specs.of_format.Terms.{BtreeFields, IsFirstOf, database_faults, file_of, is_fixed, is_recno, leaves, structure_faults};
-ghost use Rattle.bdb_recno.specs.Noted.{length_faults};
-ghost use Rattle.bdb_recno.specs.Pages.{IsRecnoPage};
-ghost use Rattle.bdb_tree.specs.Trees.{IsRoot};
+ghost use Rattle.bdb_tree.specs.of_image.Linked.{HasMetadata};
+ghost use Rattle.bdb_tree.specs.of_format.Terms.{BtreeFields, IsFirstOf, database_faults, file_of, is_recno, structure_faults};
 
 use crate::counts::note_counts;
 use crate::lengths::note_lengths;
 use crate::page::pages_of;
 use bdb_faults::{FaultSink, First, NamedList, checked};
-use bdb_tree::{BtreeMeta, CheckError, Forest, Linked};
+use bdb_tree::{BtreeMeta, CheckError, Linked};
 use std::alloc::AllocError;
 
 /// The contents of a recno: the counts of its internal pages and, where records have a fixed length, the
@@ -56,27 +53,6 @@ pub fn note_contents<F: FaultSink>(
 {
     let forest = pages_of(linked, meta);
     note_counts(&forest, meta.root, found)?;
-    note_fixed(linked, &forest, meta, found)?;
-    Ok(())
-}
-
-/// Notes the leaves with a record of a wrong length, if records have a fixed one.
-fn note_fixed<F: FaultSink>(
-    linked: &Linked<'_>,
-    forest: &Forest<'_>,
-    meta: &BtreeMeta,
-    found: &mut F,
-) -> Result<(), AllocError>
-    requires same { linked.now ≡ forest.now }
-    requires forest { IsForest forest.now }
-    requires root { IsRoot (file_of forest.now) meta.now.root }
-    requires recno { IsRecnoPage (file_of forest.now) meta.now.root }
-    requires stage { structure_faults (file_of forest.now) ≡ [] }
-    ensures { OnOk result (NotesAll (F.has_noted found.old) (F.has_noted found.new)
-        (if is_fixed meta.now then length_faults (file_of forest.now) meta.now (leaves (file_of forest.now) meta.now.root) else [])) }
-{
-    if meta.is_fixed() {
-        note_lengths(linked, forest, meta, found)?;
-    }
+    note_lengths(linked, &forest, meta, found)?;
     Ok(())
 }

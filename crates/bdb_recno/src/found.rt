@@ -15,14 +15,9 @@ use std::marker::Model;
 use std::sync::ledger::Ledger;
 
 /// What a list has under a number: one value, or none.
+#[derive(Drop)]
 pub struct Found<'a> {
     value: Option<Datum<'a>>,
-}
-
-impl Drop for Found<'_> {
-    fn drop(self) {
-        let Found { value: _value } = self;
-    }
 }
 
 impl<'a> Model for Found<'a> {
@@ -63,25 +58,25 @@ pub fn find<'a, L: Ledger>(
 {
     let forest = pages_of(linked, meta);
     Found {
-        value: record_of(&forest, meta.root, number, steps),
+        value: record_of(&forest, meta, number, steps),
     }
 }
 
 /// The value of the live record with a number, from 1.
 fn record_of<'a, L: Ledger>(
     forest: &Forest<'a>,
-    root: u32,
+    meta: &BtreeMeta,
     number: u32,
     steps: &mut Steps<L>,
 ) -> Option<Datum<'a>>
     requires forest { IsForest forest.now }
-    requires root { IsRecnoPage (file_of forest.now) root }
-    requires counts { HasRightCounts (file_of forest.now) root }
-    ensures value { cons_option (option_map datum_seen result) [] ≡ get (recno_list (file_of forest.now) root) (NumberKey number) }
-    ensures cost { steps.new ≤ steps.old + (header_in (page_at (file_of forest.now) root)).level }
+    requires root { IsRecnoPage (file_of forest.now) meta.now.root }
+    requires counts { HasRightCounts (file_of forest.now) meta.now.root }
+    ensures value { cons_option (option_map datum_seen result) [] ≡ get (recno_list (file_of forest.now) meta.now.root) (NumberKey number) }
+    ensures cost { steps.new ≤ steps.old + (header_in (page_at (file_of forest.now) meta.now.root)).level }
 {
     let place = number.checked_sub(1)?;
-    let entry = entry_below(forest, root, place, steps)?;
+    let entry = entry_below(forest, meta.root, place, steps)?;
     if is_deleted(&entry) {
         return None;
     }

@@ -1,8 +1,8 @@
-ghost use Rattle.std.specs.Prelude.{◌≡◌, [], OnOk, length};
+ghost use Rattle.std.specs.Prelude.{◌≡◌, [], OnOk, if◌then◌else◌, length};
 ghost use Rattle.bdb_faults.specs.Notes.{NotesAll};
 ghost use Rattle.bdb_tree.specs.of_image.Linked.{IsForest};
 ghost use Rattle.bdb_tree.specs.of_layout.Seen.{leaf_item_seen};
-ghost use Rattle.bdb_tree.specs.of_format.Terms.{file_of, has_wrong_record, is_wrong_record, leaves, page_at, structure_faults, value_of};
+ghost use Rattle.bdb_tree.specs.of_format.Terms.{file_of, has_wrong_record, is_fixed, is_wrong_record, leaves, page_at, structure_faults, value_of};
 ghost use Rattle.bdb_tree.specs.of_overflow.Datum.{FitsContent};
 ghost use Rattle.bdb_recno.specs.Noted.{length_faults};
 ghost use Rattle.bdb_recno.specs.Pages.{IsRecnoLeaf, IsRecnoPage};
@@ -49,7 +49,7 @@ fn has_wrong_record(linked: &Linked<'_>, forest: &Forest<'_>, meta: &BtreeMeta, 
     false
 }
 
-/// Notes the leaves of a tree that have a record of a wrong length. It takes no memory of its own.
+/// Notes the leaves of a tree that have a record of a wrong length, if records have a fixed one. It takes no memory of its own.
 pub(crate) fn note_lengths<F: FaultSink>(
     linked: &Linked<'_>,
     forest: &Forest<'_>,
@@ -62,8 +62,11 @@ pub(crate) fn note_lengths<F: FaultSink>(
     requires recno { IsRecnoPage (file_of forest.now) meta.now.root }
     requires stage { structure_faults (file_of forest.now) ≡ [] }
     ensures { OnOk result (NotesAll (F.has_noted found.old) (F.has_noted found.new)
-        (length_faults (file_of forest.now) meta.now (leaves (file_of forest.now) meta.now.root))) }
+        (if is_fixed meta.now then length_faults (file_of forest.now) meta.now (leaves (file_of forest.now) meta.now.root) else [])) }
 {
+    if !meta.is_fixed() {
+        return Ok(());
+    }
     for leaf in tree_leaves(forest, meta.root) {
         let page = leaf.number();
         let wrong = has_wrong_record(linked, forest, meta, page);

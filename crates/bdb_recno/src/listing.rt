@@ -8,20 +8,11 @@ use bdb_tree::{Datum, Forest, KeyView, TreeEntries, is_deleted, value_of};
 use std::marker::Model;
 
 /// The live records of a recno that are left, in order, each with its number as key.
+#[derive(Drop)]
 pub struct Scan<'a> {
     forest: Forest<'a>,
     entries: TreeEntries<'a>,
     passed: u32,
-}
-
-impl Drop for Scan<'_> {
-    fn drop(self) {
-        let Scan {
-            forest: _forest,
-            entries: _entries,
-            passed: _passed,
-        } = self;
-    }
 }
 
 impl<'a> Model for Scan<'a> {

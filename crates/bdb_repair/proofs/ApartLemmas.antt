@@ -6,12 +6,11 @@ use Rattle.std.proofs.lemmas.List.Elements.{All-cons, All-head, All-nil, All-tai
 use Rattle.bdb_model.specs.of_format.declared.metadata.QueueMeta.{QueueMeta}
 use Rattle.bdb_model.specs.of_format.Terms.{BtreeFields, HashFields, Meta, Metadata, Page, QueueFields, is_page_size, names_databases, page_at}
 use Rattle.bdb_model.specs.of_text_format.declared.sections.Section.{Section}
-use Rattle.bdb_model.specs.of_text_format.Terms.{holds_records}
 use Rattle.bdb_law_kept.specs.of_text.WrittenLaw.{AreBytes}
 use Rattle.bdb_mkfile.specs.Builds.{Builds, image_size}
 use Rattle.bdb_mkfile.specs.Loading.{AreLoadable, IsLoadRefusal, loading_error, or_else, size_error}
 use Rattle.bdb_mkfile.specs.of_law_sections.Fit.{AreNamedBehind, IsFitSection}
-use Rattle.bdb_mkfile.proofs.of_law_sections.PairLemmas.{fit_longer}
+use Rattle.bdb_mkfile.proofs.of_law_sections.PairLemmas.{section_longer}
 use Rattle.bdb_mkfile.specs.of_settle.LoadErrors.{load_error, page_size_in, section_errors, sooner}
 use Rattle.bdb_mkfile.specs.of_settle.declared.load_error.LoadError.{LoadError}
 use Rattle.bdb_mkfile.specs.of_settle.declared.load_error.LoadError.TheVariants.{TooLarge as TooLargeImage, Memory as MemoryForIt}
@@ -32,16 +31,10 @@ use Rattle.bdb_repair.proofs.RepairLemmas.{IsReadBy, large_only, not_large, with
 
 -- Sections that are good.
 
-longer : (least most : ℕ) (section : Section) → least ≤ most → IsFitSection least section → IsFitSection most section
-longer least most section low fit = record {
-  settings = fit.settings;
-  pairs = fit_longer (holds_records section.settings.kind) least most section.pairs low fit.pairs;
-}
-
 all_longer : (least most : ℕ) (sections : List Section) → least ≤ most → All (IsFitSection least) sections → All (IsFitSection most) sections
 all_longer least most [] low fit = All-nil (IsFitSection most)
 all_longer least most (section ∷ sections) low fit =
-    All-cons (IsFitSection most) section sections (longer least most section low (All-head (IsFitSection least) section sections fit))
+    All-cons (IsFitSection most) section sections (section_longer least most section low (All-head (IsFitSection least) section sections fit))
     (all_longer least most sections low (All-tail (IsFitSection least) section sections fit))
 
 all_fit : (size : ℕ) (alone : Bool) (sections : List Section) → All (IsGoodSection size alone) sections → (most : ℕ) × All (IsFitSection most) sections
@@ -50,7 +43,7 @@ all_fit size alone (section ∷ sections) good =
     let here : IsGoodSection size alone section = All-head (IsGoodSection size alone) section sections good in
     let rest = all_fit size alone sections (All-tail (IsGoodSection size alone) section sections good) in (
       here.most + rest.0,
-      All-cons (IsFitSection (here.most + rest.0)) section sections (longer here.most (here.most + rest.0) section (omega arith) here.fit)
+      All-cons (IsFitSection (here.most + rest.0)) section sections (section_longer here.most (here.most + rest.0) section (omega arith) here.fit)
           (all_longer rest.0 (here.most + rest.0) sections (omega arith) rest.1),
     )
 

@@ -1,5 +1,5 @@
 -- The databases that are found are fit, and have names of their own.
-use Rattle.std.proofs.Common.{◌≡◌, ℕ, Bool, true, false, cond, List, [], ◌∷◌, ◌++◌, length, map, Option, Some, None, refl, sym, ap, subst, inl, inr, ◌∙◌}
+use Rattle.std.proofs.Common.{◌≡◌, ℕ, Bool, true, false, cond, List, [], ◌∷◌, ◌++◌, length, map, Option, Some, None, refl, subst, inl, inr, ◌∙◌}
 use Rattle.std.specs.Prelude.{◌==◌, ◌&&◌, ◌||◌, not, codes, decimal}
 use Rattle.std.specs.List.{All, flat_map, fold, list_any}
 use Rattle.std.specs.Option.{is_none, is_some, option_to_list, unwrap_or}
@@ -10,7 +10,7 @@ use Rattle.bdb_model.specs.of_format.Databases.{is_name}
 use Rattle.bdb_model.specs.of_format.Terms.{BtreeFields, File, HashFields, Meta, Metadata, Page, less, page_at}
 use Rattle.bdb_model.specs.of_text_format.declared.sections.Section.{Section}
 use Rattle.bdb_model.specs.of_text_format.Reasons.{is_first, name_missing}
-use Rattle.bdb_model.proofs.of_format.LessLemmas.{eq_same, eq_self}
+use Rattle.bdb_model.proofs.of_format.LessLemmas.{differ_back}
 use Rattle.bdb_law_kept.specs.of_text.WrittenLaw.{AreBytes}
 use Rattle.bdb_mkfile.specs.of_law_sections.Fit.{AreNamedBehind}
 use Rattle.bdb_apart.specs.Found.{Found, entries, found_on, has_name, name_in, name_of, named_above, named_meta, pages_above, put_found, tree_fields, unnamed_above}
@@ -105,15 +105,6 @@ neither : (a b : Bool) → (a || b) ≡ false → (a ≡ false) × (b ≡ false)
 neither true b none = absurd (cc none)
 neither false b none = (refl, none)
 
-other_way : (a b : List ℕ) → bytes_eq a b ≡ false → bytes_eq b a ≡ false
-other_way a b differ = by_test (bytes_eq b a) refl
-  where
-    by_test : (c : Bool) → bytes_eq b a ≡ c → c ≡ false
-    by_test true is =
-        let same : b ≡ a = eq_same b a is in
-        absurd (cc (sym differ ∙ (ap (bytes_eq a) same ∙ eq_self a)))
-    by_test false is = refl
-
 nor : (a b : Bool) → a ≡ false → b ≡ false → (a || b) ≡ false
 nor true b first second = first
 nor false b first second = second
@@ -138,7 +129,7 @@ put_apart (other ∷ others) db new apart =
     by_test : (b : Bool) → bytes_eq (name_of db) (name_of other) ≡ false → AreApart (put_found others db)
         → AreApart (cond b (db ∷ other ∷ others) (other ∷ put_found others db))
     by_test true differ rest = (new, apart)
-    by_test false differ rest = (any_put (has_name (name_of other)) others db (other_way (name_of db) (name_of other) differ) apart.0, rest)
+    by_test false differ rest = (any_put (has_name (name_of other)) others db (differ_back (name_of db) (name_of other) differ) apart.0, rest)
 
 with_apart : (dbs : List Found) (db : Found) → AreApart dbs → AreApart (with_found dbs db)
 with_apart dbs db apart = by_test (list_any (has_name (name_of db)) dbs) refl
@@ -159,7 +150,7 @@ AreNew names dbs = All (λ (db : Found). list_any (is_name db.name) names ≡ fa
 
 differ_so : (one two : Option (List ℕ)) (n m : List ℕ) → one ≡ Some n → two ≡ Some m → bytes_eq (unwrap_or one []) (unwrap_or two []) ≡ false
     → is_name two one ≡ false
-differ_so (Some one) (Some two) n m first second differ = other_way one two differ
+differ_so (Some one) (Some two) n m first second differ = differ_back one two differ
 differ_so (Some one) None n m first second differ = absurd (cc second)
 differ_so None two n m first second differ = absurd (cc first)
 

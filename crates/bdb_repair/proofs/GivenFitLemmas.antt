@@ -28,7 +28,7 @@ use Rattle.bdb_mkfile.specs.of_settle.Loaded.{has_length}
 use Rattle.bdb_mkfile.specs.of_settle.LoadErrors.{pair_errors, section_errors}
 use Rattle.bdb_apart.specs.Found.{Found, only_found}
 use Rattle.bdb_apart.specs.Given.{FoundIn, fits_record, numbered_entry, numbered_on, pairs_given, records_by, records_from, records_given, records_on, start_in}
-use Rattle.bdb_apart.specs.Queues.{bytes_at, is_queue_page, queue_from, queue_records, queue_records_on, queue_slot, slots_from}
+use Rattle.bdb_apart.specs.Queues.{bytes_at, is_queue_page, queue_from, queue_records, queue_records_on, queue_slot, queue_slots_from}
 use Rattle.bdb_apart.specs.Text.{settings_in}
 use Rattle.bdb_rescue.specs.Kept.{Reading, file_in}
 use Rattle.bdb_rescue.specs.of_survey.Salvage.{live_value}
@@ -37,16 +37,12 @@ use Rattle.bdb_repair.specs.Parts.{loose_pair, stored_pair, stored_pairs}
 use Rattle.bdb_repair.proofs.FoundNameLemmas.{all_flat}
 use Rattle.bdb_repair.proofs.MetaFitLemmas.{IsFitMeta, IsFitQueue, IsFitTree}
 use Rattle.bdb_repair.proofs.PartLemmas.{fit_stored, pair_length}
+use Rattle.bdb_model.proofs.of_format.BoolLemmas.{so_second}
 
 -- Settings.
 
-then_so : (a b : Bool) → (a && not b) ≡ false → a ≡ true → b ≡ true
-then_so true true none is = refl
-then_so true false none is = absurd (cc none)
-then_so false b none is = absurd (cc is)
-
 several : (flags : ℕ) → (has_bit flags 0x40 && not (has_bit flags 0x41)) ≡ false → has_bit flags 0x40 ≡ true → has_bit flags 0x41 ≡ true
-several flags none is = then_so (has_bit flags 0x40) (has_bit flags 0x41) none is
+several flags none is = so_second (has_bit flags 0x40) (has_bit flags 0x41) none is
 
 not_queue : (settings : Settings) → is_queue settings.kind ≡ false → settings.kind ≡ Queue → ⊥
 not_queue settings none is = absurd (cc (sym none ∙ ap is_queue is))
@@ -93,7 +89,7 @@ sorted_hash : (flags : ℕ) → flags < 8 → has_bit flags 0x04 ≡ true → ha
 sorted_hash flags low is =
     let none : (has_bit flags 0x04 && not (has_bit flags 0x05)) ≡ false =
     none_passes (λ (n : ℕ). has_bit n 0x04 && not (has_bit n 0x05)) (range_with_len 0 8) flags refl (in_range 0 8 flags (omega arith) (omega (arith, low))) in
-    then_so (has_bit flags 0x04) (has_bit flags 0x05) none is
+    so_second (has_bit flags 0x04) (has_bit flags 0x05) none is
 
 hash_fit : (size : ℕ) (order : Order) (meta : HashMeta) → IsTrue (is_page_size size) → meta.flags < 8 → AreFitSettings (hash_settings size order meta)
 hash_fit size order meta legal low = record {
@@ -223,7 +219,7 @@ page_records reading size order meta p = by_test (is_queue_page reading.guess.or
     bytes : List ℕ
     bytes = drop 28 (bytes_at reading p)
 
-    by_test : (b : Bool) → All (IsFitRecord (queue_settings size order meta)) (cond b (slots_from meta p bytes 0) [])
+    by_test : (b : Bool) → All (IsFitRecord (queue_settings size order meta)) (cond b (queue_slots_from meta p bytes 0) [])
     by_test true =
         all_flat (IsFitRecord (queue_settings size order meta)) (queue_slot meta p bytes) (range_with_len 0 (meta.per_page - 0))
         (slot_record size order meta p bytes)

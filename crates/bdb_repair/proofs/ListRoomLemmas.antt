@@ -1,18 +1,19 @@
 -- A list in which no datum replaces another has all that come, and its units have all of the list.
-use Rattle.std.proofs.Common.{◌≡◌, ℕ, ◌+◌, ◌-◌, Bool, true, false, cond, List, [], ◌∷◌, ◌++◌, map, arith, refl, sym, ap, subst, ◌&&◌, ◌||◌, replicate}
-use Rattle.std.specs.Prelude.{◌%◌, length, not}
+use Rattle.std.proofs.Common.{◌≡◌, ℕ, ◌+◌, ◌-◌, Bool, true, false, cond, List, [], ◌∷◌, ◌++◌, map, arith, refl, sym, ap, subst, ◌&&◌, ◌||◌}
+use Rattle.std.specs.Prelude.{◌%◌, not}
 use Rattle.std.specs.List.{fold, sum_by}
 use Rattle.std.specs.Str.{bytes_eq}
 use Rattle.std.proofs.lemmas.List.Sums.{sum_by-cons}
 use Rattle.bdb_model.specs.of_format.declared.settings.Settings.{Settings}
 use Rattle.bdb_model.specs.of_text_format.declared.pairs.Pair.{Pair}
 use Rattle.bdb_model.specs.of_text_format.Terms.{holds_records}
-use Rattle.bdb_mkfile.specs.of_settle.Loaded.{filled_value, has_length, keeps_data, loaded_pair, put, stands_before, with_loaded}
+use Rattle.bdb_mkfile.specs.of_settle.Loaded.{has_length, keeps_data, loaded_pair, put, stands_before, with_loaded}
 use Rattle.bdb_mkfile.specs.of_mkleaves.Units.{TreeUnit, KeyedUnit, EntryUnit}
 use Rattle.bdb_mkfile.specs.of_mktree.Lists.{bytes_in, keyed_units, onto_units}
 use Rattle.bdb_repair.specs.Parts.{stored_pair}
 use Rattle.bdb_repair.specs.Room.{datum_room, pair_room}
 use Rattle.bdb_repair.proofs.RoomLemmas.{unit_room}
+use Rattle.bdb_mkfile.proofs.of_settle.FillingLemmas.{value_as_is}
 
 -- what the datum of a pair takes at least
 abbrev pub listed_room : Pair → ℕ
@@ -49,10 +50,6 @@ no_length : (fixed records : Bool) → records ≡ false → (fixed && records) 
 no_length true records none = none
 no_length false records none = refl
 
-whole_value : (settings : Settings) (value : List ℕ) → has_length settings ≡ false → filled_value settings value ≡ value
-whole_value settings value none =
-    subst (λ b. cond b (value ++ replicate (settings.re_len - length value) (settings.re_pad % 256)) value ≡ value) (sym none) refl
-
 -- data that are kept as they come lose nothing
 kept_onto : (settings : Settings) (list : List Pair) (pairs : List (List ℕ × List ℕ)) → keeps_data settings ≡ true → has_length settings ≡ false
     → sum_by listed_room (fold (with_loaded settings) list (map (loaded_pair settings) (map stored_pair pairs)))
@@ -63,7 +60,7 @@ kept_onto settings list (pair ∷ pairs) keeps whole =
     let one : sum_by listed_room (with_loaded settings list here) ≡ listed_room here + sum_by listed_room list =
     subst (λ k. sum_by listed_room (put (stands_before settings) k here list) ≡ listed_room here + sum_by listed_room list) (sym keeps)
     (put_room (stands_before settings) here list) in
-    let same : listed_room here ≡ pair_room pair = ap datum_room (whole_value settings pair.1 whole) in
+    let same : listed_room here ≡ pair_room pair = ap datum_room (value_as_is settings pair.1 whole) in
     let sum = sum_by-cons pair_room pair pairs in
     let rest = kept_onto settings (with_loaded settings list here) pairs keeps whole in
     omega (arith, one, same, sum, rest)

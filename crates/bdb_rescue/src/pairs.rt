@@ -12,20 +12,11 @@ use bdb_survey::Datum;
 use std::marker::Model;
 
 /// The stored pairs that are left.
+#[derive(Drop)]
 pub struct SalvagePairs<'s, 'a> {
     salvaged: &'s Salvaged<'a>,
     here: Option<PairLeft<'s, 'a>>,
     pairs: Places<'s, KeptPair>,
-}
-
-impl Drop for SalvagePairs<'_, '_> {
-    fn drop(self) {
-        let SalvagePairs {
-            salvaged: _salvaged,
-            here: _here,
-            pairs: _pairs,
-        } = self;
-    }
 }
 
 impl<'s, 'a> Model for SalvagePairs<'s, 'a> {

@@ -1,10 +1,9 @@
-ghost use Rattle.std.specs.Prelude.{◌≡◌, ◌%◌, ◌++◌, ◌∷◌, [], length, map, reverse, IfOk, OnOk};
+ghost use Rattle.std.specs.Prelude.{◌≡◌, ◌%◌, ◌++◌, ◌∷◌, [], length, IfOk, OnOk};
 ghost use Rattle.bdb_mktree.specs.of_text_format.Terms.{pair_seen, slice_seen};
-ghost use Rattle.bdb_settle.specs.Loaded.{filled_pair, filled_pairs, filled_section, filled_value, has_length};
+ghost use Rattle.bdb_settle.specs.Loaded.{filled_pair, filled_pairs, filled_value, has_length};
 
 use crate::order::holds_records;
-use crate::turning::turned;
-use bdb_mktree::{PairRef, PairSlice, Section, Sections, Settings, TextPairs};
+use bdb_mktree::{PairRef, PairSlice, Settings, TextPairs};
 use std::alloc::{AllocError, Global};
 
 /// Whether records have a fixed length.
@@ -76,7 +75,7 @@ fn fill_pairs(
 }
 
 /// Pairs with their records filled up. They are as they are where records have no fixed length.
-fn filled_pairs(
+pub(crate) fn filled_pairs(
     alloc: Global,
     settings: &Settings,
     pairs: TextPairs,
@@ -87,37 +86,4 @@ fn filled_pairs(
         return Ok(pairs);
     }
     fill_pairs(alloc, settings, pairs.as_slice())
-}
-
-/// A section with its records filled up.
-fn filled_section(alloc: Global, section: Section) -> Result<Section, AllocError>
-    ensures { IfOk result (λ filled. filled ≡ filled_section section) }
-{
-    let settings = section.settings;
-    let pairs = filled_pairs(alloc, &settings, section.pairs)?;
-    Ok(Section {
-        name: section.name,
-        settings,
-        header_line: section.header_line,
-        pairs,
-    })
-}
-
-/// Sections with their records filled up, the last one first.
-fn fill_sections_backward(alloc: Global, sections: Sections) -> Result<Vec<Section>, AllocError>
-    ensures { IfOk result (λ all. all.items ≡ reverse (map filled_section sections)) }
-{
-    let mut sections = sections;
-    let mut all = Vec::with_capacity(alloc, sections.len())?;
-    while let Some(section) = sections.pop() {
-        all.push(filled_section(alloc, section)?)?;
-    }
-    Ok(all)
-}
-
-/// The sections, in which each record of a fixed length is filled up to it. An error means that memory ran out.
-pub fn filled(alloc: Global, sections: Sections) -> Result<Sections, AllocError>
-    ensures { IfOk result (λ all. all ≡ map filled_section sections) }
-{
-    turned(alloc, fill_sections_backward(alloc, sections)?)
 }

@@ -15,6 +15,6 @@ pub use errors::{
     is_among_names, is_too_wide, load_error as first_load_error, page_size_in, sooner_where,
     with_pairs,
 };
-pub use filling::{filled, filled_len};
+pub use filling::filled_len;
 pub use load_error::LoadError;
-pub use sections::{ordered, settle};
+pub use sections::{filled, ordered, settle};

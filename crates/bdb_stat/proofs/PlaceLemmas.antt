@@ -7,7 +7,7 @@ use Rattle.std.proofs.lemmas.Bool.Decides.{nat_tests}
 use Rattle.std.proofs.lemmas.List.Elements.{filter-append}
 use Rattle.std.proofs.lemmas.List.FromFn.{length-range_with_len}
 use Rattle.bdb_law_turned.proofs.of_format.ListLemmas.{any_member, passes_here, range_parts}
-use Rattle.bdb_law_turned.proofs.of_format.MemberLemmas.{first_member, in_range, later_member, none_pass, of_range}
+use Rattle.bdb_law_turned.proofs.of_format.MemberLemmas.{few_pass, first_member, in_range, later_member, none_pass, of_range}
 use Rattle.bdb_stat.specs.Unused.{lies_in, places_outside}
 
 -- a place lies in a range that holds it
@@ -37,15 +37,6 @@ none_kept test (x ∷ xs) none = rw (none x (first_member x xs)) (none_kept test
 all_kept : (test : ℕ → Bool) (xs : List ℕ) → ((x : ℕ) → Contains xs x → test x ≡ true) → length (filter test xs) ≡ length xs
 all_kept test [] all = refl
 all_kept test (x ∷ xs) all = rw (all x (first_member x xs)) (ap (λ n. suc n) (all_kept test xs (λ y at. all y (later_member x xs y at))))
-
-pub few_kept : (test : ℕ → Bool) (xs : List ℕ) → length (filter test xs) ≤ length xs
-few_kept test [] = omega arith
-few_kept test (x ∷ xs) =
-    let few : length (filter test xs) ≤ length xs = few_kept test xs in
-    elim (test x) as (λ b. length (cond b (x ∷ filter test xs) (filter test xs)) ≤ suc (length xs)) [
-      | true ↦ omega arith
-      | false ↦ omega arith
-    ]
 
 -- places that all lie in some range
 pub none_outside : (from to n : ℕ) (begin end : ℕ → ℕ) → ((k : ℕ) → from ≤ k → k < to → lies_in n begin end k ≡ true) → places_outside from to n begin end ≡ 0
@@ -77,7 +68,7 @@ outside_parts from mid to n begin end low high =
 -- they are as many as the places, or fewer
 pub few_outside : (from to n : ℕ) (begin end : ℕ → ℕ) → places_outside from to n begin end ≤ to - from
 few_outside from to n begin end =
-    omega (arith, few_kept (λ k. not (lies_in n begin end k)) (range_with_len from (to - from)), length-range_with_len from (to - from))
+    omega (arith, few_pass (λ k. not (lies_in n begin end k)) (range_with_len from (to - from)), length-range_with_len from (to - from))
 
 kept_same : (f g : ℕ → Bool) (xs : List ℕ) → ((x : ℕ) → Contains xs x → f x ≡ g x) → length (filter f xs) ≡ length (filter g xs)
 kept_same f g [] same = refl

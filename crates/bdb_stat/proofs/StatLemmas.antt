@@ -28,11 +28,12 @@ use Rattle.bdb_stat.specs.declared.class.Class.{Class}
 use Rattle.bdb_stat.specs.declared.class.Class.TheVariants.{Meta, Internal, Leaf, Hash, Overflow, Free as FreeClass, Reserve, Queue, Tail}
 use Rattle.bdb_stat.proofs.ClassLemmas.{has_class}
 use Rattle.bdb_law_turned.proofs.of_graph.ChainLengthLemmas.{size_is}
-use Rattle.bdb_stat.proofs.PlaceLemmas.{few_kept, few_outside}
+use Rattle.bdb_stat.proofs.PlaceLemmas.{few_outside}
 use Rattle.bdb_stat.specs.declared.figures.Stat.{Stat}
 use Rattle.bdb_stat.specs.Figures.{Counts, IsStat, count_in}
 use Rattle.bdb_stat.specs.Laws.{ClassesAddUp}
 use Rattle.bdb_law_turned.proofs.of_format.ListLemmas.{range_zero_more}
+use Rattle.bdb_law_turned.proofs.of_format.MemberLemmas.{few_pass}
 
 -- One page more.
 
@@ -65,7 +66,7 @@ unused_more file n =
 -- How large they get.
 
 pub few_pages : (file : File) (class : Class) (n : ℕ) → pages_below file class n ≤ n
-few_pages file class n = omega (arith, few_kept (λ p. is_class class (class_of file p)) (range_with_len 0 n), length-range_with_len 0 n)
+few_pages file class n = omega (arith, few_pass (λ p. is_class class (class_of file p)) (range_with_len 0 n), length-range_with_len 0 n)
 
 few_listed : {I : Type 0} (size : ℕ) (page : Listed I) (end : ℕ → ℕ) → listed_unused size page end ≤ size
 unfolding listed_unused

@@ -12,29 +12,14 @@ use bdb_law_turned::{FileKind, Linked, PageView};
 fn is_queue(kind: FileKind) -> bool
     ensures { result ≡ is_queue kind }
 {
-    match kind {
-        FileKind::Queue => true,
-        FileKind::Btree | FileKind::Hash => false,
-    }
+    matches!(kind, FileKind::Queue)
 }
 
 /// Whether a page is metadata.
 fn is_meta(page: &PageView<'_>) -> bool
     ensures { result ≡ is_meta (page_seen page.now) }
 {
-    match page {
-        PageView::Meta(_) => true,
-        PageView::Zero(_)
-        | PageView::Free(_)
-        | PageView::Leaf(_)
-        | PageView::Internal(_)
-        | PageView::RecnoLeaf(_)
-        | PageView::RecnoInternal(_)
-        | PageView::DupLeaf(_)
-        | PageView::Hash(_)
-        | PageView::Overflow(_)
-        | PageView::Queue(_) => false,
-    }
+    matches!(page, PageView::Meta(_))
 }
 
 /// Whether a table may hold a page in reserve, as long as no reference names it.
@@ -48,14 +33,7 @@ fn is_spare(page: &PageView<'_>) -> bool
             header.entries == 0 && header.previous == 0 && header.next == 0
         }
         PageView::Free(view) => view.next() == 0,
-        PageView::Meta(_)
-        | PageView::Leaf(_)
-        | PageView::Internal(_)
-        | PageView::RecnoLeaf(_)
-        | PageView::RecnoInternal(_)
-        | PageView::DupLeaf(_)
-        | PageView::Overflow(_)
-        | PageView::Queue(_) => false,
+        _ => false,
     }
 }
 

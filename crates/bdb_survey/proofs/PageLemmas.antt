@@ -4,15 +4,10 @@ use Rattle.std.proofs.Common.{Result, Ok, Err}
 use Rattle.std.proofs.lemmas.Bool.{cases_lt}
 use Rattle.std.proofs.Math.Nat.{div-le_of_le-mul}
 use Rattle.bdb_law_sums.specs.of_form.declared.view.PageView.{PageView}
-use Rattle.bdb_law_sums.specs.of_form.declared.view.PageView.TheVariants.{Zero as ZeroView, Free, Meta, Leaf, Internal, RecnoLeaf, RecnoInternal, DupLeaf, Hash}
-use Rattle.bdb_law_sums.specs.of_form.declared.view.PageView.TheVariants.{Overflow}
-use Rattle.bdb_law_sums.specs.of_form.declared.view.PageView.TheVariants.{Queue}
-use Rattle.bdb_law_sums.specs.of_form.Formed.{MetaPage, QueuePage as QueueSeen}
-use Rattle.bdb_law_sums.specs.of_format.declared.pages.Header.{Header}
 use Rattle.bdb_law_sums.specs.of_form.Formed.{unless}
-use Rattle.bdb_law_sums.specs.of_form.Seen.{form_seen, header_seen, page_seen}
+use Rattle.bdb_law_sums.specs.of_form.Seen.{form_seen, page_seen}
 use Rattle.bdb_law_sums.specs.of_format.declared.kinds.Order.{Order}
-use Rattle.bdb_law_sums.specs.of_format.Terms.{File, NoType, Page, abstract_page, byte_at, four_at, header_in, is_page_size, page_at, page_code, page_type}
+use Rattle.bdb_law_sums.specs.of_format.Terms.{File, NoType, Page, abstract_page, byte_at, four_at, is_page_size, page_at, page_code, page_type}
 use Rattle.bdb_law_sums.specs.of_format.Terms.{piece_in}
 use Rattle.bdb_law_sums.proofs.of_format.SizeLemmas.{size_bounds}
 use Rattle.bdb_law_sums.proofs.of_image.PieceLemmas.{piece_fits}
@@ -112,30 +107,6 @@ answer_short size order image p file is legal there page same =
     let eq : length (piece_in page) ≡ length (piece_in (page_at (salvaged_file order size image) p)) = ap (λ x. length (piece_in x))
     (same ∙ ap (λ f. page_at f p) is) in
     omega (arith, eq, short_page order size image p legal there)
-
--- The header of a page that has one.
-
-pub seen_header : (view : PageView) → ((m : MetaPage) → view ≡ Meta m → ⊥) → ((q : QueueSeen) → view ≡ Queue q → ⊥)
-    → header_seen view ≡ header_in (page_seen view)
-seen_header (ZeroView view) meta queue = refl
-seen_header (Free view) meta queue = refl
-seen_header (Meta view) meta queue = absurd (meta view refl)
-seen_header (Leaf view) meta queue = refl
-seen_header (Internal view) meta queue = refl
-seen_header (RecnoLeaf view) meta queue = refl
-seen_header (RecnoInternal view) meta queue = refl
-seen_header (DupLeaf view) meta queue = refl
-seen_header (Hash view) meta queue = refl
-seen_header (Overflow view) meta queue = refl
-seen_header (Queue view) meta queue = absurd (queue view refl)
-
-pub next_seen : (view : PageView) → ((m : MetaPage) → view ≡ Meta m → ⊥) → ((q : QueueSeen) → view ≡ Queue q → ⊥)
-    → (header_seen view).next ≡ (header_in (page_seen view)).next
-next_seen view meta queue = ap (λ (h : Header). h.next) (seen_header view meta queue)
-
-pub level_seen : (view : PageView) → ((m : MetaPage) → view ≡ Meta m → ⊥) → ((q : QueueSeen) → view ≡ Queue q → ⊥)
-    → (header_seen view).level ≡ (header_in (page_seen view)).level
-level_seen view meta queue = ap (λ (h : Header). h.level) (seen_header view meta queue)
 
 -- A page with items has no fault.
 

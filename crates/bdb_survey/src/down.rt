@@ -1,5 +1,5 @@
 ghost use Rattle.std.specs.Prelude.{◌≡◌, if◌then◌else◌, ℕ};
-ghost use Rattle.bdb_law_sums.specs.of_format.Terms.{Internal, InternalItem, Listed, RecnoInternal, header_in, page_at};
+ghost use Rattle.bdb_law_sums.specs.of_format.Terms.{Internal, InternalItem, Listed, RecnoInternal, page_at};
 ghost use Rattle.bdb_law_sums.specs.of_format.declared.pages.RecnoItem.{RecnoItem};
 ghost use Rattle.bdb_law_sums.specs.of_form.Seen.{page_seen};
 ghost use Rattle.bdb_survey.specs.Salvage.{down, fits_below, set_start};
@@ -38,18 +38,6 @@ fn page_type(page: &PageView<'_>) -> Option<u8>
     }
 }
 
-/// The level that the header of a page tells; 0 for metadata and pages of a queue.
-#[tactic(auto, using(crate::proofs::PageLemmas::level_seen))]
-fn level_on(page: &PageView<'_>) -> u8
-    ensures { result ≡ (header_in (page_seen page.now)).level }
-{
-    match page {
-        PageView::Meta(_) => 0,
-        PageView::Queue(_) => 0,
-        _ => page.header().level,
-    }
-}
-
 /// Whether a page above 0 has one of these types, and this level.
 fn fits(pages: &WholePages<'_>, types: &[u8], level: u8, child: u32) -> bool
     ensures { result ≡ fits_as pages.now types.now level child }
@@ -58,7 +46,7 @@ fn fits(pages: &WholePages<'_>, types: &[u8], level: u8, child: u32) -> bool
         return false;
     }
     match pages.page(child) {
-        Some(page) => has_type(types, page_type(&page)) && level == level_on(&page),
+        Some(page) => has_type(types, page_type(&page)) && level == page.own_header().level,
         None => false,
     }
 }

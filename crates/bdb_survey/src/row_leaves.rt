@@ -1,31 +1,17 @@
 ghost use Rattle.std.specs.Prelude.{◌≡◌};
 ghost use Rattle.std.specs.Iterator.{YieldsFirst, item_count};
-ghost use Rattle.bdb_law_sums.specs.of_form.Seen.{page_seen};
-ghost use Rattle.bdb_law_sums.specs.of_format.Terms.{chain, header_in, next_of};
+ghost use Rattle.bdb_law_sums.specs.of_format.Terms.{chain, next_of};
 ghost use Rattle.bdb_survey.specs.Rows.{unless_zero};
 
 use crate::whole_pages::WholePages;
-use bdb_law_sums::PageView;
 use std::marker::Model;
-
-/// The next page that the header of a page names; metadata and pages of a queue have none.
-#[tactic(auto, using(crate::proofs::PageLemmas::next_seen))]
-fn next_on(page: &PageView<'_>) -> u32
-    ensures { result ≡ (header_in (page_seen page.now)).next }
-{
-    match page {
-        PageView::Meta(_) => 0,
-        PageView::Queue(_) => 0,
-        _ => page.header().next,
-    }
-}
 
 /// The page that a page names as the next one, 0 for none.
 fn next_of(pages: &WholePages<'_>, page: u32) -> u32
     ensures { result ≡ next_of pages.now page }
 {
     match pages.page(page) {
-        Some(page) => next_on(&page),
+        Some(page) => page.own_header().next,
         None => 0,
     }
 }

@@ -7,7 +7,7 @@ ghost use Rattle.bdb_swap.specs.Turns.{Turns};
 
 use crate::header::turn_header;
 use crate::listed::turn_listed;
-use crate::metadata::{turn_btree_meta, turn_hash_meta, turn_queue_meta};
+use crate::metadata::{turn_hash_meta, turn_meta};
 use crate::number::turn_fours;
 use bdb_io::{Head, Order, PageType};
 use bdb_law_turned::{
@@ -33,8 +33,8 @@ fn turn_typed(page: &mut [u8], source: &[u8], order: Order, page_type: PageType)
         PageType::DupLeaf => turn_listed::<EntryLeafKind<SortedData>>(page, source, order),
         PageType::Overflow => turn_header(page, source),
         PageType::HashMeta => turn_hash_meta(page, source),
-        PageType::BtreeMeta => turn_btree_meta(page, source),
-        PageType::QueueMeta => turn_queue_meta(page, source),
+        PageType::BtreeMeta => turn_meta(page, source, 76, 4),
+        PageType::QueueMeta => turn_meta(page, source, 72, 6),
         PageType::Queue => turn_fours(page, source, 0, 3),
         PageType::Other => {}
     }

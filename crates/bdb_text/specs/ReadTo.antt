@@ -42,7 +42,11 @@ abbrev pub OnFault : (TextFault → Type 0) → TextError → Type 0
 OnFault P (Fault fault) = P fault
 OnFault P Memory = ⊤
 
+-- the error of a line with this number and this reason
+abbrev pub fault_at : ℕ → TextReason → TextError
+fault_at number reason = Fault (record { line = number; reason = reason })
+
 -- the error of a line with this number
 abbrev pub error_at : ℕ → LineError → TextError
-error_at number (Reason reason) = Fault (record { line = number; reason = reason })
+error_at number (Reason reason) = fault_at number reason
 error_at number WantOfMemory = Memory

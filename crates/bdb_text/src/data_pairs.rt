@@ -1,20 +1,18 @@
 // The data lines of a section, read as pairs.
-ghost use Rattle.bdb_text.specs.DataTo.{IsCountedFault, IsCountedRead, IsDataFault, IsDataRead, IsDatum, IsDatumFault};
+ghost use Rattle.bdb_text.specs.DataTo.{IsDataFault, IsDataRead, IsDatum, IsDatumFault};
 ghost use Rattle.bdb_text.specs.DataTo.{IsKeyedFault, IsKeyedRead, IsPairFault, IsPairRead};
 ghost use Rattle.bdb_text.specs.Fields.{values_in};
 ghost use Rattle.bdb_text.specs.ReadTo.{OnFault, error_at};
-ghost use Rattle.bdb_spelling.specs.of_text_format.Terms.{ArePlaced, has_keys, has_record_type, placed_pairs, prints};
+ghost use Rattle.bdb_spelling.specs.of_text_format.Terms.{ArePlaced, has_keys, has_record_type, is_data_end, placed_pairs, prints};
 ghost use Rattle.std.specs.Prelude.{◌≡◌, ◌+◌, ◌<◌, ◌≤◌, ◌^◌, [], IfOk, IfErr, length};
 
 use crate::data_lines::{LineError, read_data, read_key};
 use crate::fields::Field;
 use crate::meant::{has_keys, has_record_type, prints};
-use crate::text_errors::TextError;
+use crate::text_errors::{TextError, fault_at};
 use crate::text_lines::cut_line;
 use bdb_spelling::{Place, PlacedKey, PlacedPairs, Span, TextFault, TextPairs, TextReason};
 use std::alloc::Global;
-
-const DATA_END: [u8; 8] = *b"DATA=END";
 
 /// The pairs of a section, the text behind its end, and the number of the line behind its last.
 #[derive(Drop)]
@@ -47,15 +45,21 @@ pub struct PairAt<'a> {
     pub number: u64,
 }
 
+const DATA_END: [u8; 8] = *b"DATA=END";
+
+// Whether a line is the last of a section.
+fn is_data_end(line: &[u8]) -> bool
+    ensures { result ≡ is_data_end line.now }
+{
+    line == DATA_END.as_slice()
+}
+
 // The error of a line with this number.
 fn error_at(number: u64, error: LineError) -> TextError
     ensures { result ≡ error_at number error }
 {
     match error {
-        LineError::Reason(reason) => TextError::Fault(TextFault {
-            line: number,
-            reason,
-        }),
+        LineError::Reason(reason) => fault_at(number, reason),
         LineError::Memory => TextError::Memory,
     }
 }
@@ -72,17 +76,11 @@ fn read_datum<'a>(
     ensures err { IfErr result (OnFault (IsDatumFault print text.now number)) }
 {
     if text.is_empty() {
-        return Err(TextError::Fault(TextFault {
-            line: number,
-            reason: TextReason::NoEnd,
-        }));
+        return Err(fault_at(number, TextReason::NoEnd));
     }
     let cut = cut_line(text);
-    if cut.line == DATA_END.as_slice() {
-        return Err(TextError::Fault(TextFault {
-            line: number,
-            reason: TextReason::KeyWithoutData,
-        }));
+    if is_data_end(cut.line) {
+        return Err(fault_at(number, TextReason::KeyWithoutData));
     }
     match read_data(cut.line, print, bytes) {
         Ok(span) => Ok(Datum {
@@ -123,34 +121,6 @@ fn read_keyed<'a>(
     })
 }
 
-// Adds a datum to a run, as that of a record with this number.
-fn read_counted<'a>(
-    line: &[u8],
-    behind: &'a [u8],
-    number: u64,
-    way: Way,
-    record_number: u32,
-    bytes: &mut Vec<u8>,
-) -> Result<PairAt<'a>, TextError>
-    requires { number < 2 ^ 32 }
-    ensures later { IfOk result (λ read. number < read.number) }
-    ensures ok { IfOk result (IsCountedRead way.print line.now behind.now number record_number bytes.old.items bytes.new.items) }
-    ensures err { IfErr result (OnFault (IsCountedFault way.print line.now number)) }
-{
-    match read_data(line, way.print, bytes) {
-        Ok(value) => Ok(PairAt {
-            place: Place {
-                key: PlacedKey::Number(record_number),
-                value,
-                line: number,
-            },
-            rest: behind,
-            number: number + 1,
-        }),
-        Err(error) => Err(error_at(number, error)),
-    }
-}
-
 // Adds the pair whose first line this is to a run. `record_number` is that of a record that has no key.
 fn read_pair<'a>(
     line: &[u8],
@@ -167,9 +137,19 @@ fn read_pair<'a>(
     ensures err { IfErr result (OnFault (IsPairFault way line.now behind.now number)) }
 {
     if way.keyed {
-        read_keyed(line, behind, number, way, bytes)
-    } else {
-        read_counted(line, behind, number, way, record_number, bytes)
+        return read_keyed(line, behind, number, way, bytes);
+    }
+    match read_data(line, way.print, bytes) {
+        Ok(value) => Ok(PairAt {
+            place: Place {
+                key: PlacedKey::Number(record_number),
+                value,
+                line: number,
+            },
+            rest: behind,
+            number: number + 1,
+        }),
+        Err(error) => Err(error_at(number, error)),
     }
 }
 
@@ -227,9 +207,10 @@ pub fn read_pairs<'a>(
     let mut rest = text;
     while !rest.is_empty() {
         let cut = cut_line(rest);
-        if cut.line == DATA_END.as_slice() {
+        if is_data_end(cut.line) {
+            let pairs = pairs_in(bytes, places);
             return Ok(Data {
-                pairs: pairs_in(bytes, places),
+                pairs,
                 rest: cut.rest,
                 number: number + 1,
             });
@@ -242,8 +223,5 @@ pub fn read_pairs<'a>(
         number = read.number;
         rest = read.rest;
     }
-    Err(TextError::Fault(TextFault {
-        line: number,
-        reason: TextReason::NoEnd,
-    }))
+    Err(fault_at(number, TextReason::NoEnd))
 }

@@ -10,9 +10,9 @@ use crate::earlier::Earlier;
 use crate::fields::{Field, is_given, value_of};
 use crate::headers::read_header;
 use crate::meant::{conflicts, settings_in};
-use crate::text_errors::TextError;
+use crate::text_errors::{TextError, fault_at};
 use crate::text_lines::cut_line;
-use bdb_spelling::{Bytes, Section, Sections, SpellError, TextFault, TextReason, read_spelling};
+use bdb_spelling::{Bytes, Section, Sections, SpellError, TextReason, read_spelling};
 use std::alloc::Global;
 
 const TYPE: [u8; 4] = *b"type";
@@ -35,17 +35,17 @@ pub fn read_dump(alloc: Global, text: &[u8]) -> Result<Sections, TextError>
     ensures err { IfErr result (OnFault (IsTextFault text.now)) }
 {
     if text.is_empty() {
-        return Err(TextError::Fault(TextFault {
-            line: 1,
-            reason: TextReason::NoVersion,
-        }));
+        return Err(fault_at(1, TextReason::NoVersion));
     }
     let mut earlier = Earlier::new(alloc);
     let mut number = 1;
     let mut rest = text;
     while !rest.is_empty() {
         let read = read_section(alloc, rest, number, &earlier)?;
-        earlier = earlier.with(alloc, read.section)?;
+        let Ok(all) = earlier.with(alloc, read.section) else {
+            return Err(TextError::Memory);
+        };
+        earlier = all;
         number = read.number;
         rest = read.rest;
     }
@@ -78,18 +78,12 @@ fn read_section<'a>(
 {
     let first = cut_line(text);
     if let Some(reason) = first_line_reason(first.line) {
-        return Err(TextError::Fault(TextFault {
-            line: start,
-            reason,
-        }));
+        return Err(fault_at(start, reason));
     }
     let header = read_header(alloc, first.rest, start + 1)?;
     let name = name_in(alloc, &header.fields)?;
     if let Some(reason) = end_reason(&header.fields, &name, earlier) {
-        return Err(TextError::Fault(TextFault {
-            line: header.number,
-            reason,
-        }));
+        return Err(fault_at(header.number, reason));
     }
     let room = room_for(header.rest, earlier);
     let data = read_pairs(alloc, header.rest, header.number + 1, &header.fields, room)?;

@@ -1,15 +1,14 @@
 // The lines of a header.
 ghost use Rattle.bdb_text.specs.ReadTo.{IsHeaderFault, IsHeaderRead, OnFault};
-ghost use Rattle.std.specs.Prelude.{◌+◌, ◌<◌, ◌≤◌, ◌^◌, IfOk, IfErr, length};
+ghost use Rattle.bdb_spelling.specs.of_text_format.Terms.{is_header_end};
+ghost use Rattle.std.specs.Prelude.{◌≡◌, ◌+◌, ◌<◌, ◌≤◌, ◌^◌, IfOk, IfErr, length};
 
 use crate::fields::Field;
 use crate::keywords::judge;
-use crate::text_errors::TextError;
+use crate::text_errors::{TextError, fault_at};
 use crate::text_lines::cut_line;
-use bdb_spelling::{TextFault, TextReason};
+use bdb_spelling::TextReason;
 use std::alloc::Global;
-
-const HEADER_END: [u8; 10] = *b"HEADER=END";
 
 /// A header without a fault, the text behind its end, and the number of its last line.
 #[derive(Drop)]
@@ -17,6 +16,15 @@ pub struct Header<'a> {
     pub fields: Vec<Field<'a>>,
     pub rest: &'a [u8],
     pub number: u64,
+}
+
+const HEADER_END: [u8; 10] = *b"HEADER=END";
+
+// Whether a line is the last of a header.
+fn is_header_end(line: &[u8]) -> bool
+    ensures { result ≡ is_header_end line.now }
+{
+    line == HEADER_END.as_slice()
 }
 
 /// The header of a section whose first line stands before the text. The number is that of the text's first line.
@@ -31,7 +39,7 @@ pub fn read_header(alloc: Global, text: &[u8], start: u64) -> Result<Header<'_>,
     let mut rest = text;
     while !rest.is_empty() {
         let cut = cut_line(rest);
-        if cut.line == HEADER_END.as_slice() {
+        if is_header_end(cut.line) {
             return Ok(Header {
                 fields,
                 rest: cut.rest,
@@ -46,14 +54,8 @@ pub fn read_header(alloc: Global, text: &[u8], start: u64) -> Result<Header<'_>,
                 number += 1;
                 rest = cut.rest;
             }
-            Err(reason) => return Err(TextError::Fault(TextFault {
-                line: number,
-                reason,
-            })),
+            Err(reason) => return Err(fault_at(number, reason)),
         }
     }
-    Err(TextError::Fault(TextFault {
-        line: number,
-        reason: TextReason::NoEnd,
-    }))
+    Err(fault_at(number, TextReason::NoEnd))
 }

@@ -7,22 +7,6 @@ ghost use Rattle.std.specs.Prelude.{◌≡◌, ◌==◌, ◌∷◌, [], codes, f
 use crate::fields::{Field, field_of, is_given};
 use bdb_spelling::{Judged, TextReason, is_spelling, number_read};
 
-const FORMAT: [u8; 6] = *b"format";
-
-const DATABASE: [u8; 8] = *b"database";
-
-const TYPE: [u8; 4] = *b"type";
-
-const DUPLICATES: [u8; 10] = *b"duplicates";
-
-const DUPSORT: [u8; 7] = *b"dupsort";
-
-const RECNUM: [u8; 6] = *b"recnum";
-
-const RENUMBER: [u8; 8] = *b"renumber";
-
-const KEYS: [u8; 4] = *b"keys";
-
 /// Whether a value is `0` or `1`.
 fn on_or_off(value: &[u8]) -> Judged
     ensures { result ≡ on_or_off value.now }
@@ -43,24 +27,6 @@ fn format(value: &[u8]) -> Judged
         Judged::Bad
     }
 }
-
-const DB_PAGESIZE: [u8; 11] = *b"db_pagesize";
-
-const DB_LORDER: [u8; 9] = *b"db_lorder";
-
-const EXTENTSIZE: [u8; 10] = *b"extentsize";
-
-const CHKSUM: [u8; 6] = *b"chksum";
-
-const BT_MINKEY: [u8; 9] = *b"bt_minkey";
-
-const H_FFACTOR: [u8; 9] = *b"h_ffactor";
-
-const H_NELEM: [u8; 7] = *b"h_nelem";
-
-const RE_LEN: [u8; 6] = *b"re_len";
-
-const RE_PAD: [u8; 6] = *b"re_pad";
 
 fn any_number(value: &[u8]) -> Judged
     ensures { result ≡ any_number value.now }
@@ -138,55 +104,39 @@ fn spelled(value: &[u8]) -> Judged
     }
 }
 
+// What a value is to the keyword that has one of these names; else what the last row says.
+macro_rules! judge_by_name {
+    ($name:expr; $($($keyword:literal)|+ => $judged:expr,)+ _ => $other:expr) => {{
+        $(if $($name == $keyword.as_slice())||+ {
+            return Some($judged);
+        })+
+        $other
+    }};
+}
+
 /// What a value is to the keyword of this name.
 pub fn judge_value(name: &[u8], value: &[u8]) -> Option<Judged>
     ensures { result ≡ judged_by value.now (keyword_named name.now) }
 {
-    if name == FORMAT.as_slice() {
-        return Some(format(value));
-    }
-    if name == DATABASE.as_slice() {
-        return Some(spelled(value));
-    }
-    if name == TYPE.as_slice() {
-        return Some(kind(value));
-    }
-    if name == DUPLICATES.as_slice()
-        || name == DUPSORT.as_slice()
-        || name == RECNUM.as_slice()
-        || name == RENUMBER.as_slice()
-        || name == KEYS.as_slice()
-    {
-        return Some(on_or_off(value));
-    }
-    judge_setting(name, value)
+    judge_by_name!(name;
+        b"format" => format(value),
+        b"database" => spelled(value),
+        b"type" => kind(value),
+        b"duplicates" | b"dupsort" | b"recnum" | b"renumber" | b"keys" => on_or_off(value),
+        _ => judge_setting(name, value))
 }
 
 // The same of the keywords from `chksum` on.
 fn judge_setting(name: &[u8], value: &[u8]) -> Option<Judged>
     ensures { result ≡ judged_by value.now (find_named name.now later_keywords) }
 {
-    if name == CHKSUM.as_slice() {
-        return Some(checksum(value));
-    }
-    if name == DB_PAGESIZE.as_slice() {
-        return Some(page_size(value));
-    }
-    if name == DB_LORDER.as_slice() {
-        return Some(byte_order(value));
-    }
-    if name == EXTENTSIZE.as_slice() {
-        return Some(extent_size(value));
-    }
-    if name == BT_MINKEY.as_slice()
-        || name == H_FFACTOR.as_slice()
-        || name == H_NELEM.as_slice()
-        || name == RE_LEN.as_slice()
-        || name == RE_PAD.as_slice()
-    {
-        return Some(any_number(value));
-    }
-    None
+    judge_by_name!(name;
+        b"chksum" => checksum(value),
+        b"db_pagesize" => page_size(value),
+        b"db_lorder" => byte_order(value),
+        b"extentsize" => extent_size(value),
+        b"bt_minkey" | b"h_ffactor" | b"h_nelem" | b"re_len" | b"re_pad" => any_number(value),
+        _ => None)
 }
 
 /// The keyword and value of a line, or its first reason.

@@ -1,45 +1,22 @@
 // What a header says in all: its type, its conflicts and its settings.
 ghost use Rattle.bdb_spelling.specs.of_text_format.Terms.{conflicts, has_keys, has_record_type, has_type, is_on, number_or, order_in, plain_in, prints};
-ghost use Rattle.bdb_spelling.specs.of_text_format.Terms.{repeats, settings_in};
+ghost use Rattle.bdb_spelling.specs.of_text_format.Terms.{kind_text, repeats, settings_in};
 ghost use Rattle.bdb_text.specs.Fields.{values_in};
 ghost use Rattle.std.specs.Prelude.{◌≡◌, codes};
 
 use crate::fields::{Field, gives, number_or};
+use crate::header::kind_word;
 use bdb_spelling::{Kind, Order, Settings, plain_settings};
 
 const TYPE: [u8; 4] = *b"type";
 
 const ON: [u8; 1] = *b"1";
 
-/// Whether a header has this word as its type.
-fn has_type(fields: &[Field<'_>], word: &[u8]) -> bool
-    ensures { result ≡ has_type word.now (values_in fields.now) }
+/// Whether a header has the word of this kind as its type.
+fn has_kind(fields: &[Field<'_>], kind: Kind) -> bool
+    ensures { result ≡ has_type (kind_text kind) (values_in fields.now) }
 {
-    gives(fields, TYPE.as_slice(), word)
-}
-
-fn is_btree(fields: &[Field<'_>]) -> bool
-    ensures { result ≡ has_type (codes "btree") (values_in fields.now) }
-{
-    has_type(fields, b"btree".as_slice())
-}
-
-fn is_hash(fields: &[Field<'_>]) -> bool
-    ensures { result ≡ has_type (codes "hash") (values_in fields.now) }
-{
-    has_type(fields, b"hash".as_slice())
-}
-
-fn is_recno(fields: &[Field<'_>]) -> bool
-    ensures { result ≡ has_type (codes "recno") (values_in fields.now) }
-{
-    has_type(fields, b"recno".as_slice())
-}
-
-fn is_queue(fields: &[Field<'_>]) -> bool
-    ensures { result ≡ has_type (codes "queue") (values_in fields.now) }
-{
-    has_type(fields, b"queue".as_slice())
+    gives(fields, TYPE.as_slice(), kind_word(kind))
 }
 
 /// Whether a header switches this keyword on.
@@ -60,7 +37,7 @@ fn repeats(fields: &[Field<'_>]) -> bool
 pub fn has_record_type(fields: &[Field<'_>]) -> bool
     ensures { result ≡ has_record_type (values_in fields.now) }
 {
-    is_recno(fields) | is_queue(fields)
+    has_kind(fields, Kind::Recno) | has_kind(fields, Kind::Queue)
 }
 
 /// Whether the data lines of a section are keys and data in turn.
@@ -84,32 +61,11 @@ fn page_size_in(fields: &[Field<'_>]) -> u32
     number_or(fields, b"db_pagesize".as_slice(), 4096)
 }
 
-/// The least number of keys for which a page has room.
-fn minkey_in(fields: &[Field<'_>]) -> u32
-    ensures { result ≡ number_or 2 (values_in fields.now (codes "bt_minkey")) }
-{
-    number_or(fields, b"bt_minkey".as_slice(), 2)
-}
-
-/// How many pairs a bucket is to hold.
-fn ffactor_in(fields: &[Field<'_>]) -> u32
-    ensures { result ≡ number_or 0 (values_in fields.now (codes "h_ffactor")) }
-{
-    number_or(fields, b"h_ffactor".as_slice(), 0)
-}
-
 /// The length of a record.
 fn re_len_in(fields: &[Field<'_>]) -> u32
     ensures { result ≡ number_or 0 (values_in fields.now (codes "re_len")) }
 {
     number_or(fields, b"re_len".as_slice(), 0)
-}
-
-/// The byte that fills up a short record.
-fn re_pad_in(fields: &[Field<'_>]) -> u32
-    ensures { result ≡ number_or 32 (values_in fields.now (codes "re_pad")) }
-{
-    number_or(fields, b"re_pad".as_slice(), 32)
 }
 
 /// Whether what a header says is in conflict.
@@ -119,10 +75,10 @@ pub fn conflicts(fields: &[Field<'_>]) -> bool
     let no_keys = gives(fields, b"keys".as_slice(), b"0".as_slice());
     let no_length = re_len_in(fields) == 0;
     repeats(fields) & has_record_type(fields)
-        | is_on(fields, b"recnum".as_slice()) & (!is_btree(fields) | repeats(fields))
-        | is_on(fields, b"renumber".as_slice()) & !is_recno(fields)
-        | no_keys & (is_btree(fields) | is_hash(fields))
-        | is_queue(fields) & no_length
+        | is_on(fields, b"recnum".as_slice()) & (!has_kind(fields, Kind::Btree) | repeats(fields))
+        | is_on(fields, b"renumber".as_slice()) & !has_kind(fields, Kind::Recno)
+        | no_keys & (has_kind(fields, Kind::Btree) | has_kind(fields, Kind::Hash))
+        | has_kind(fields, Kind::Queue) & no_length
 }
 
 /// The order of bytes that a header asks for.
@@ -147,26 +103,26 @@ fn plain_in(kind: Kind, fields: &[Field<'_>]) -> Settings
 pub fn settings_in(fields: &[Field<'_>]) -> Settings
     ensures { result ≡ settings_in (values_in fields.now) }
 {
-    if is_btree(fields) {
+    if has_kind(fields, Kind::Btree) {
         return Settings {
             duplicates: repeats(fields),
             sorted: is_on(fields, b"dupsort".as_slice()),
             recnum: is_on(fields, b"recnum".as_slice()),
-            minkey: minkey_in(fields),
+            minkey: number_or(fields, b"bt_minkey".as_slice(), 2),
             ..plain_in(Kind::Btree, fields)
         };
     }
-    if is_hash(fields) {
+    if has_kind(fields, Kind::Hash) {
         return Settings {
             duplicates: repeats(fields),
             sorted: is_on(fields, b"dupsort".as_slice()),
-            ffactor: ffactor_in(fields),
+            ffactor: number_or(fields, b"h_ffactor".as_slice(), 0),
             ..plain_in(Kind::Hash, fields)
         };
     }
     let re_len = re_len_in(fields);
-    let re_pad = re_pad_in(fields);
-    if is_recno(fields) {
+    let re_pad = number_or(fields, b"re_pad".as_slice(), 32);
+    if has_kind(fields, Kind::Recno) {
         return Settings {
             renumber: is_on(fields, b"renumber".as_slice()),
             fixed: re_len != 0,

@@ -1,7 +1,7 @@
 ghost use Rattle.std.specs.Prelude.{◌≡◌};
+ghost use Rattle.bdb_text.specs.ReadTo.{fault_at};
 
-use bdb_spelling::TextFault;
-use std::alloc::AllocError;
+use bdb_spelling::{TextFault, TextReason};
 use thiserror::Error;
 
 /// Why a dump text isn't read.
@@ -14,12 +14,9 @@ pub enum TextError {
     Memory,
 }
 
-impl From<AllocError> for TextError {
-    ghost use Rattle.bdb_text.specs.declared.text_errors.TextError.TheVariants.{Memory};
-
-    ghost from_gives = { λ _ error. error ≡ Memory };
-
-    fn from(_error: AllocError) -> TextError {
-        TextError::Memory
-    }
+/// The error of a line with this number and this reason.
+pub fn fault_at(line: u64, reason: TextReason) -> TextError
+    ensures { result ≡ fault_at line reason }
+{
+    TextError::Fault(TextFault { line, reason })
 }

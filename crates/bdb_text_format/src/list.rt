@@ -1,4 +1,4 @@
-ghost use Rattle.std.specs.Prelude.{◌≡◌, ◌==◌, ◌∷◌, ◌++◌, [], OnOk, OnErr, length, map, slice_get};
+ghost use Rattle.std.specs.Prelude.{◌≡◌, ◌∷◌, ◌++◌, [], OnOk, OnErr, length, map, slice_get};
 ghost use Rattle.std.specs.Option.{option_map};
 ghost use Rattle.bdb_text_format.specs.Pairs.{listed_as, unnumbered};
 ghost use Rattle.bdb_text_format.specs.Placed.{key_seen, pair_seen, slice_seen};
@@ -74,13 +74,6 @@ impl PairList {
         ensures { result ≡ length self.now }
     {
         self.pairs.len()
-    }
-
-    /// Whether there are none.
-    pub fn is_empty(&self) -> bool
-        ensures { result ≡ (length self.now == 0) }
-    {
-        self.pairs.is_empty()
     }
 
     /// The pair at a place, from 0, lent, with the line 0; `None` exactly where the list ends before it.

@@ -1,4 +1,4 @@
-ghost use Rattle.std.specs.Prelude.{◌≡◌, ◌==◌, ◌<◌, ◌∷◌, ◌++◌, [], OnOk, OnErr, IfOk, IfSome, IsSome, true, ◌≤◌, ◌-◌, ◌+◌, ◌^◌, get_or, length, slice_get, slice_range, take, vec_capacity};
+ghost use Rattle.std.specs.Prelude.{◌≡◌, ◌<◌, ◌∷◌, ◌++◌, [], OnOk, OnErr, IfOk, IfSome, IsSome, true, ◌≤◌, ◌-◌, ◌+◌, ◌^◌, get_or, length, slice_get, slice_range, take, vec_capacity};
 ghost use Rattle.std.specs.Option.{option_map};
 ghost use Rattle.std.specs.List.{All};
 ghost use Rattle.bdb_text_format.specs.Pairs.{last_key};
@@ -59,7 +59,7 @@ impl Model for TextPairs {
     ghost invariant = { λ pairs. ArePlaced pairs.bytes.items pairs.places.items };
 }
 
-// Adds bytes at the end of a run, and answers where they stand. Refused only where the run would have 2^32 bytes, or more than it has room for.
+// Adds bytes at the end of a run, and returns where they stand. Fails if the run would have 2^32 bytes, or if there is no memory for more.
 #[tactic(auto, using(crate::proofs::PlacedLemmas::kept_all, crate::proofs::PlacedLemmas::kept_more, crate::proofs::PlacedLemmas::piece_put))]
 pub(crate) fn put(bytes: &mut Vec<u8>, piece: &[u8]) -> Result<Span, AllocError>
     ensures kept { Keeps bytes.old.items bytes.new.items }
@@ -257,13 +257,6 @@ impl TextPairs {
         ensures { result ≡ length self.now }
     {
         self.places.len()
-    }
-
-    /// Whether there are none.
-    pub fn is_empty(&self) -> bool
-        ensures { result ≡ (length self.now == 0) }
-    {
-        self.places.is_empty()
     }
 
     /// The pair at a place, from 0, lent; `None` exactly where the list ends before it.

@@ -1,5 +1,5 @@
 -- Answers of the commands that build a file, and of `salvage` and `survey`.
-use Rattle.std.proofs.Common.{◌≡◌, ◌⊎◌, ℕ, Bool, true, false, List, [], ◌∷◌, map, ap, refl, sym, subst, arith, inl, inr, Option, Some, None, Result, nat_lt, codes, string_bytes}
+use Rattle.std.proofs.Common.{◌≡◌, ◌⊎◌, ℕ, Bool, true, false, List, [], ◌∷◌, map, refl, sym, subst, arith, inl, inr, Option, Some, None, Ok, Err, MatchResult, Result, nat_lt, codes, string_bytes}
 use Rattle.bdb_repair.specs.of_text_format.Terms.{line, text_fault}
 use Rattle.bdb_repair.specs.of_model.Answers.{Answer, done, fault_line, told, unsupported_line}
 use Rattle.bdb_repair.specs.of_model.Change.{Change}
@@ -21,7 +21,7 @@ use Rattle.bdb_tool.specs.declared.salvaging.Extract.{Extract}
 use Rattle.bdb_tool.specs.declared.salvaging.Extract.TheVariants as extract
 use Rattle.bdb_tool_ask.specs.of_tool_print.Survey.{survey_text}
 use Rattle.bdb_tool_ask.specs.of_tool_lines.Finished.{Finishes, HasOwnStatus, Reports, Tells}
-use Rattle.bdb_tool.specs.Parts.{Answered, Ends, IsRefusalTold, Unanswered}
+use Rattle.bdb_tool.specs.Parts.{Answered, Ends, IsImageTold, IsRefusalTold, Unanswered}
 use Rattle.bdb_repair.specs.of_format.declared.kinds.Kind.{Kind}
 use Rattle.bdb_repair.proofs.of_format.KnownLemmas.{keeps_itself}
 use Rattle.bdb_repair.specs.of_text_format.declared.faults.TextFault.{TextFault}
@@ -104,21 +104,34 @@ pub written_ends : (allowed : Answer → Type 0) (text : List ℕ) (out err : Ch
 written_ends allowed text out err written status is writes reports = Answered (done text) is (written_finishes text out err written status writes reports)
 
 -- it was told why nothing is built
+pub refusal_told : (refusal : Refusal) (written : Option (List ℕ)) (faults : ℕ) (err : Change) (status : ℕ) → IsRefusalTold refusal err status
+    → IsImageTold (Err refusal) (moved written written faults faults) err status
+refusal_told (FaultyText line) written faults err status tells =
+    told_finishes 8 (string_bytes line) written faults err status (λ five. omega arith) (λ seven. omega arith) tells
+refusal_told (TooLargeImage line) written faults err status tells =
+    told_finishes 6 (string_bytes line) written faults err status (λ five. omega arith) (λ seven. omega arith) tells
+refusal_told MemoryRefusal written faults err status tells = (keeps_itself written, tells)
+
+-- an image that was built is an answer, and so is why there is none
+pub image_ends : (allowed : Answer → Type 0) (result : Result (List ℕ) Refusal) (out err : Change) (status : ℕ)
+    → MatchResult result (λ image. allowed (done image)) (IsRefusedAnswer allowed) → IsImageTold result out err status → Ends allowed out err status
+image_ends allowed (Ok image) out err status is finishes = Answered (done image) is finishes
+image_ends allowed (Err (FaultyText line)) out err status is finishes = Answered (told 8 (string_bytes line)) is finishes
+image_ends allowed (Err (TooLargeImage line)) out err status is finishes = Answered (told 6 (string_bytes line)) is finishes
+image_ends allowed (Err MemoryRefusal) out err status is memory = Unanswered memory.0 memory.1
+
 pub refusal_ends : (allowed : Answer → Type 0) (refusal : Refusal) (written : Option (List ℕ)) (faults : ℕ) (err : Change) (status : ℕ)
     → IsRefusedAnswer allowed refusal → IsRefusalTold refusal err status
     → Ends allowed (moved written written faults faults) err status
-refusal_ends allowed (FaultyText line) written faults err status is tells =
-    Answered (told 8 (string_bytes line)) is (told_finishes 8 (string_bytes line) written faults err status (λ five. omega arith) (λ seven. omega arith) tells)
-refusal_ends allowed (TooLargeImage line) written faults err status is tells =
-    Answered (told 6 (string_bytes line)) is (told_finishes 6 (string_bytes line) written faults err status (λ five. omega arith) (λ seven. omega arith) tells)
-refusal_ends allowed MemoryRefusal written faults err status is tells = Unanswered (keeps_itself written) tells
+refusal_ends allowed refusal written faults err status is tells =
+    image_ends allowed (Err refusal) (moved written written faults faults) err status is (refusal_told refusal written faults err status tells)
 
 -- `salvage`.
 
 low_own_ten : HasOwnStatus no_metadata
 low_own_ten = record { no_read_fault = λ four. omega arith; no_write_fault = λ five. omega arith; no_memory = λ seven. omega arith }
 
-salvaged_own : (guess : Option Guess) (print : Bool) (image : List ℕ) → HasOwnStatus (salvaged_answer guess print image)
+pub salvaged_own : (guess : Option Guess) (print : Bool) (image : List ℕ) → HasOwnStatus (salvaged_answer guess print image)
 salvaged_own None print image = low_own_ten
 salvaged_own (Some guess) print image = low_own (done (salvage_text print guess image)) (omega arith)
 
@@ -136,7 +149,7 @@ known_own (extract.Apart print) reading = apart_own (found reading) print readin
 known_own (extract.Rest print) reading = low_own (done (rest_text print reading.guess reading.image)) (omega arith)
 known_own (extract.Survey case) reading = low_own (done (survey_text case reading)) (omega arith)
 
-extract_own : (guess : Option Guess) (it : Extract) (image : List ℕ) → HasOwnStatus (extract_by guess it image)
+pub extract_own : (guess : Option Guess) (it : Extract) (image : List ℕ) → HasOwnStatus (extract_by guess it image)
 extract_own None it image = low_own_ten
 extract_own (Some guess) it image = known_own it (record { guess = guess; image = image })
 
@@ -157,15 +170,6 @@ parts_own parts.Rest guess print image = supported_own guess (extract.Rest print
 pub survey_own : (guess : Option Guess) (image : List ℕ) → HasOwnStatus (survey_answer guess image)
 survey_own guess image = extract_own (chosen guess image) (extract.Survey (unsupported_case None image)) image
 
--- what is salvaged by the guess that was chosen was written, or cut off, and that was told
-pub salvage_finishes : (given : Option Guess) (print : Bool) (image : List ℕ) (guess : Guess) (read : List ℕ) (out err : Change) (written : Result Unit Cut)
-    (status : ℕ) → chosen given image ≡ Some guess → read ≡ image
-    → Writes (salvage_text print guess read) out written → Reports written err status → Finishes (salvage_answer given print image) out err status
-salvage_finishes given print image guess read out err written status is same writes reports =
-    subst (λ it. Finishes (salvaged_answer it print image) out err status) (sym is)
-    (written_finishes (salvage_text print guess image) out err written status (subst (λ bytes. Writes (salvage_text print guess bytes) out written) same writes)
-    reports)
-
 -- it was told that there is no metadata page
 pub no_meta_finishes : (answer : Answer) (written : Option (List ℕ)) (faults : ℕ) (err : Change) (status : ℕ) → answer ≡ no_metadata
     → Tells (line (codes "no metadata page")) 10 err status → Finishes answer (moved written written faults faults) err status
@@ -173,14 +177,7 @@ no_meta_finishes answer written faults err status is tells =
     subst (λ it. Finishes it (moved written written faults faults) err status) (sym is)
     (told_finishes 10 (line (codes "no metadata page")) written faults err status (λ five. omega arith) (λ seven. omega arith) tells)
 
--- without a guess there is none
-pub no_salvage : (given : Option Guess) (print : Bool) (image : List ℕ) → chosen given image ≡ None → salvage_answer given print image ≡ no_metadata
-no_salvage given print image none = ap (λ it. salvaged_answer it print image) none
-
-pub no_extract : (given : Option Guess) (it : Extract) (image : List ℕ) → chosen given image ≡ None → extract_by (chosen given image) it image ≡ no_metadata
-no_extract given it image none = ap (λ (guess : Option Guess). extract_by guess it image) none
-
--- nor where no database is found
+-- no database is found
 pub no_database : (reading : Reading) (print : Bool) → found_in reading ≡ [] → apart_answer (found reading) print reading ≡ no_metadata
 no_database reading print none = by_list (found reading) none
   where
@@ -208,25 +205,6 @@ known_as it reading now out err status same finishes = subst (λ (r : Reading). 
 pub known_memory : (it : Extract) (reading : Reading) (written : Option (List ℕ)) (faults : ℕ) (err : Change) (status : ℕ) → Tells memory_line 7 err status
     → Finishes (extract_answer it reading) (moved written written faults faults) err status
 known_memory it reading written faults err status tells = memory_finishes (extract_answer it reading) written faults err status (known_own it reading) tells
-
--- what is told of an image that was read by the guess that was chosen
-pub extract_finishes : (given : Option Guess) (it : Extract) (image : List ℕ) (reading : Reading) (out err : Change) (status : ℕ)
-    → chosen given image ≡ Some reading.guess → reading.image ≡ image → Finishes (extract_answer it reading) out err status
-    → Finishes (extract_by (chosen given image) it image) out err status
-extract_finishes given it image reading out err status is same finishes =
-    subst (λ guess. Finishes (extract_by guess it image) out err status) (sym is)
-    (subst (λ bytes. Finishes (extract_answer it (record { guess = reading.guess; image = bytes })) out err status) same finishes)
-
--- memory ran out
-pub salvage_memory : (given : Option Guess) (print : Bool) (image : List ℕ) (written : Option (List ℕ)) (faults : ℕ) (err : Change) (status : ℕ)
-    → Tells memory_line 7 err status → Finishes (salvage_answer given print image) (moved written written faults faults) err status
-salvage_memory given print image written faults err status tells =
-    memory_finishes (salvage_answer given print image) written faults err status (salvage_own given print image) tells
-
-pub extract_memory : (given : Option Guess) (it : Extract) (image : List ℕ) (written : Option (List ℕ)) (faults : ℕ) (err : Change) (status : ℕ)
-    → Tells memory_line 7 err status → Finishes (extract_by (chosen given image) it image) (moved written written faults faults) err status
-extract_memory given it image written faults err status tells =
-    memory_finishes (extract_by (chosen given image) it image) written faults err status (extract_own (chosen given image) it image) tells
 
 -- A case that page 0 names.
 

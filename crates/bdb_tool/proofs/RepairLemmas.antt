@@ -1,6 +1,6 @@
 -- What `repair` answers.
 use Rattle.std.proofs.Common.{◌≡◌, ◌∙◌, ◌⊎◌, ℕ, Bool, true, false, List, [], ◌∷◌, Option, Some, None, Result, Ok, Err, IfOk, ap, arith, codes, inl, inr}
-use Rattle.std.proofs.Common.{is_some, nat_lt, refl, sym, subst}
+use Rattle.std.proofs.Common.{nat_lt, refl, sym, subst}
 use Rattle.std.specs.Prelude.{⊤}
 use Rattle.bdb_repair.proofs.of_format.KnownLemmas.{keeps_itself}
 use Rattle.bdb_repair.proofs.of_format.ListLemmas.{one_answer}
@@ -21,12 +21,14 @@ use Rattle.bdb_repair.specs.Parts.{repair_sections}
 use Rattle.bdb_repair.specs.Repairs.{IsRepaired}
 use Rattle.bdb_repair.specs.of_rescue.Guesses.{chosen, is_queue_or_master, unsupported_case}
 use Rattle.bdb_repair.specs.of_survey.declared.guess.Guess.{Guess}
-use Rattle.bdb_tool.specs.Outputs.{AreBuiltBy, IsApartAnswer, IsImageBy, IsRepairAnswer, IsRepairBy, IsRepairUnless, IsShapedAnswer}
+use Rattle.bdb_tool.specs.Outputs.{AreBuiltBy, IsApartAnswer, IsImageBy, IsRepairAnswer, IsRepairBy, IsRepairUnless}
 use Rattle.bdb_tool.specs.Outputs.{IsUnlessUnsupported, no_metadata, not_one, shape_refusal}
-use Rattle.bdb_tool_ask.specs.of_tool_lines.Finished.{HasOwnStatus, Tells}
-use Rattle.bdb_tool.specs.Parts.{Answered, Ends, IsBuiltTold, TellsWhy, Unanswered}
+use Rattle.bdb_tool_ask.specs.of_tool_lines.Finished.{Finishes, HasOwnStatus, Tells}
+use Rattle.bdb_tool.specs.Parts.{Answered, Ends, IsBuiltTold, IsRepairBuilt, TellsWhy, Unanswered, refusal_by, refused_answer, repair_refusal}
 use Rattle.bdb_tool_ask.proofs.of_tool_lines.FinishLemmas.{low_own, told_finishes}
 use Rattle.bdb_tool_build.specs.Lines.{image_too_large_line}
+use Rattle.bdb_tool.specs.declared.repairing.RepairRefusal.{RepairRefusal}
+use Rattle.bdb_tool.specs.declared.repairing.RepairRefusal.TheVariants.{Case, NotOne}
 use Rattle.bdb_tool_words.specs.declared.command.Built.{Built}
 use Rattle.bdb_tool_words.specs.declared.command.Built.TheVariants.{Each, Shaped}
 
@@ -39,7 +41,7 @@ Allows allowed limit (Err NoMeta) = allowed no_metadata
 Allows allowed limit (Err TooLarge) = allowed (told 6 (image_too_large_line limit))
 Allows allowed limit (Err Memory) = ⊤
 
-pub shaped_allowed : (limit : ℕ) (shape : Option Shape) (found : Option Guess) (image : List ℕ) (result : Result (List ℕ) RepairError)
+shaped_allowed : (limit : ℕ) (shape : Option Shape) (found : Option Guess) (image : List ℕ) (result : Result (List ℕ) RepairError)
     → IsRepaired limit shape found image result → IfOk result (λ built. HasBuiltTables built) → Allows (IsRepairBy limit shape found image) limit result
 shaped_allowed limit shape None image (Ok built) is tables = absurd is
 shaped_allowed limit shape None image (Err NoMeta) is tables = refl
@@ -66,7 +68,7 @@ sections_allowed limit (first ∷ others) (Err TooLarge) is tables =
     subst (λ large. IsImageBy large limit (first ∷ others) (told 6 (image_too_large_line limit))) (sym is) refl
 sections_allowed limit (first ∷ others) (Err Memory) is tables = tt
 
-pub apart_allowed : (limit : ℕ) (found : Option Guess) (image : List ℕ) (result : Result (List ℕ) RepairError) → IsRepairedApart limit found image result
+apart_allowed : (limit : ℕ) (found : Option Guess) (image : List ℕ) (result : Result (List ℕ) RepairError) → IsRepairedApart limit found image result
     → IfOk result (λ built. HasBuiltTables built) → Allows (IsApartAnswer limit found image) limit result
 apart_allowed limit None image (Ok built) is tables = absurd is
 apart_allowed limit None image (Err NoMeta) is tables = refl
@@ -79,7 +81,7 @@ apart_allowed limit (Some guess) image (Err Memory) is tables = tt
 
 -- The answer is written, or told.
 
-pub built_ends : (allowed : Answer → Type 0) (limit : ℕ) (result : Result (List ℕ) RepairError) (out err : Change) (status : ℕ) → Allows allowed limit result
+built_ends : (allowed : Answer → Type 0) (limit : ℕ) (result : Result (List ℕ) RepairError) (out err : Change) (status : ℕ) → Allows allowed limit result
     → IsBuiltTold limit result out err status → Ends allowed out err status
 built_ends allowed limit (Ok built) out err status is finishes = Answered (done built) is finishes
 built_ends allowed limit (Err NoMeta) out err status is finishes = Answered no_metadata is finishes
@@ -87,48 +89,10 @@ built_ends allowed limit (Err TooLarge) out err status is (inl finishes) = Answe
 built_ends allowed limit (Err TooLarge) out err status is (inr memory) = Unanswered memory.0 memory.1
 built_ends allowed limit (Err Memory) out err status is memory = Unanswered memory.0 memory.1
 
--- what was built within a number of bytes that is the limit
-pub shaped_ends : (limit max : ℕ) (shape : Option Shape) (given : Option Guess) (image : List ℕ) (result : Result (List ℕ) RepairError) (out err : Change)
-    (status : ℕ) → max ≡ limit → IsRepaired max shape (chosen given image) image result → IfOk result (λ built. HasBuiltTables built)
-    → IsBuiltTold limit result out err status → Ends (IsRepairBy limit shape (chosen given image) image) out err status
-shaped_ends limit max shape given image result out err status same is tables told_so =
-    built_ends (IsRepairBy limit shape (chosen given image) image) limit result out err status
-    (shaped_allowed limit shape (chosen given image) image result (subst (λ n. IsRepaired n shape (chosen given image) image result) same is) tables) told_so
-
-pub found_ends : (limit max : ℕ) (given : Option Guess) (image : List ℕ) (result : Result (List ℕ) RepairError) (out err : Change) (status : ℕ)
-    → max ≡ limit → IsRepairedApart max (chosen given image) image result → IfOk result (λ built. HasBuiltTables built)
-    → IsBuiltTold limit result out err status → Ends (IsApartAnswer limit (chosen given image) image) out err status
-found_ends limit max given image result out err status same is tables told_so =
-    built_ends (IsApartAnswer limit (chosen given image) image) limit result out err status
-    (apart_allowed limit (chosen given image) image result (subst (λ n. IsRepairedApart n (chosen given image) image result) same is) tables) told_so
-
-pub known_ends : (limit : ℕ) (given : Option Guess) (image : List ℕ) (out err : Change) (status : ℕ) → None ≡ unsupported_case given image
-    → Ends (IsApartAnswer limit (chosen given image) image) out err status
-    → Ends (IsUnlessUnsupported (unsupported_case given image) limit (chosen given image) image) out err status
-known_ends limit given image out err status none ends =
-    subst (λ left. Ends (IsUnlessUnsupported left limit (chosen given image) image) out err status) none ends
-
-pub each_case_ends : (limit : ℕ) (given : Option Guess) (image : List ℕ) (name : Unsupported) (written : Option (List ℕ)) (faults : ℕ) (err : Change) (status : ℕ)
-    → Some name ≡ unsupported_case given image → (Tells (unsupported_line name 0) 3 err status ⊎ Tells memory_line 7 err status)
-    → Ends (IsUnlessUnsupported (unsupported_case given image) limit (chosen given image) image) (moved written written faults faults) err status
-each_case_ends limit given image name written faults err status is tells =
-    subst (λ left. Ends (IsUnlessUnsupported left limit (chosen given image) image) (moved written written faults faults) err status) is
-    (elim tells [
-      | inl case ↦
-          Answered (told 3 (unsupported_line name 0)) refl
-          (told_finishes 3 (unsupported_line name 0) written faults err status (λ five. omega arith) (λ seven. omega arith) case)
-      | inr memory ↦ Unanswered (keeps_itself written) memory
-    ])
-
 -- what was told of a result was told of the same
 pub told_as : (limit : ℕ) (result other : Result (List ℕ) RepairError) (out err : Change) (status : ℕ) → result ≡ other
     → IsBuiltTold limit other out err status → IsBuiltTold limit result out err status
 told_as limit result other out err status is told_so = subst (λ r. IsBuiltTold limit r out err status) (sym is) told_so
-
--- by what the new file has
-pub asked_ends : (limit : ℕ) (built asked : Built) (given : Option Guess) (image : List ℕ) (out err : Change) (status : ℕ) → asked ≡ built
-    → Ends (IsRepairAnswer limit built given image) out err status → Ends (IsRepairAnswer limit asked given image) out err status
-asked_ends limit built asked given image out err status is ends = subst (λ b. Ends (IsRepairAnswer limit b given image) out err status) (sym is) ends
 
 -- that an image would be too large was told
 large_told : (limit : ℕ) (written : Option (List ℕ)) (faults : ℕ) (err : Change) (status : ℕ)
@@ -158,68 +122,77 @@ why_told limit NoMeta written faults err status tells = no_meta_told limit writt
 why_told limit TooLarge written faults err status tells = large_told limit written faults err status tells
 why_told limit Memory written faults err status tells = memory_told limit written faults err status tells
 
--- One database is asked for, and page 0 says that the file isn't one.
+-- what is built within a number of bytes that is the limit, by what the new file has
+pub built_as : (limit max : ℕ) (built asked : Built) (guess : Option Guess) (image : List ℕ) (result : Result (List ℕ) RepairError) → max ≡ limit
+    → asked ≡ built → IsRepairBuilt max built guess image result → IsRepairBuilt limit asked guess image result
+built_as limit max built asked guess image result same is repaired =
+    subst (λ n. IsRepairBuilt n asked guess image result) same (subst (λ (b : Built). IsRepairBuilt max b guess image result) (sym is) repaired)
 
-refused_by : (refusal : Option Answer) (status limit : ℕ) (text : List ℕ) (shape : Option Shape) (given : Option Guess) (image : List ℕ)
-    → refusal ≡ Some (told status text) → IsRepairUnless refusal limit shape given image (told status text)
-refused_by refusal status limit text shape given image is =
-    subst (λ (it : Option Answer). IsRepairUnless it limit shape given image (told status text)) (sym is) refl
+-- The refusal, or else what is built, is an answer.
 
-refused_ends : (own limit : ℕ) (text : List ℕ) (shape : Option Shape) (given : Option Guess) (image : List ℕ) (written : Option (List ℕ)) (faults : ℕ)
-    (err : Change) (status : ℕ) → (own ≡ 5 → ⊥) → (own ≡ 7 → ⊥) → shape_refusal shape given image ≡ Some (told own text) → Tells text own err status
-    → Ends (IsShapedAnswer limit shape given image) (moved written written faults faults) err status
-refused_ends own limit text shape given image written faults err status five seven is tells =
-    Answered (told own text) (refused_by (shape_refusal shape given image) own limit text shape given image is)
-    (told_finishes own text written faults err status five seven tells)
+each_refused : (refusal : RepairRefusal) (left : Option Unsupported) (other : Bool) (limit : ℕ) (found : Option Guess) (image : List ℕ)
+    → refusal_by false left other ≡ Some refusal → IsUnlessUnsupported left limit found image (refused_answer refusal)
+each_refused refusal (Some name) other limit found image is = ap refused_answer (sym (one_answer _ _ is))
+each_refused refusal None other limit found image is = absurd (let no : None ≡ Some refusal = is in cc)
 
--- a shape is asked for, and this is why it's refused
-refusal_is : (shape : Option Shape) (given : Option Guess) (image : List ℕ) → is_some shape ≡ true
-    → shape_refusal shape given image ≡ not_one (unsupported_case given image) (is_queue_or_master given image)
-refusal_is None given image asked = absurd (let no : false ≡ true = asked in cc)
-refusal_is (Some shape) given image asked = refl
+shape_refused : (refusal : RepairRefusal) (left : Option Unsupported) (other : Bool) (limit : ℕ) (shape : Option Shape) (given : Option Guess) (image : List ℕ)
+    → refusal_by true left other ≡ Some refusal → IsRepairUnless (not_one left other) limit shape given image (refused_answer refusal)
+shape_refused refusal (Some name) other limit shape given image is = ap refused_answer (sym (one_answer _ _ is))
+shape_refused refusal None true limit shape given image is = ap refused_answer (sym (one_answer _ _ is))
+shape_refused refusal None false limit shape given image is = absurd (let no : None ≡ Some refusal = is in cc)
 
-pub case_ends : (limit : ℕ) (name : Unsupported) (shape : Option Shape) (given : Option Guess) (image : List ℕ) (written : Option (List ℕ)) (faults : ℕ)
-    (err : Change) (status : ℕ) → is_some shape ≡ true → unsupported_case given image ≡ Some name
-    → (Tells (unsupported_line name 0) 3 err status ⊎ Tells memory_line 7 err status)
-    → Ends (IsShapedAnswer limit shape given image) (moved written written faults faults) err status
-case_ends limit name shape given image written faults err status asked is (inl tells) =
-    refused_ends 3 limit (unsupported_line name 0) shape given image written faults err status (λ five. omega arith) (λ seven. omega arith)
-    (refusal_is shape given image asked ∙ ap (λ (it : Option Unsupported). not_one it (is_queue_or_master given image)) is) tells
-case_ends limit name shape given image written faults err status asked is (inr tells) = Unanswered (keeps_itself written) tells
+refused : (limit : ℕ) (refusal : RepairRefusal) (built : Built) (given : Option Guess) (image : List ℕ) → repair_refusal built given image ≡ Some refusal
+    → IsRepairAnswer limit built given image (refused_answer refusal)
+refused limit refusal Each given image is =
+    each_refused refusal (unsupported_case given image) (is_queue_or_master given image) limit (chosen given image) image is
+refused limit refusal (Shaped None) given image is = absurd (let no : None ≡ Some refusal = is in cc)
+refused limit refusal (Shaped (Some shape)) given image is =
+    shape_refused refusal (unsupported_case given image) (is_queue_or_master given image) limit (Some shape) given image is
 
-pub other_ends : (limit : ℕ) (shape : Option Shape) (given : Option Guess) (image : List ℕ) (written : Option (List ℕ)) (faults : ℕ)
-    (err : Change) (status : ℕ) → is_some shape ≡ true → unsupported_case given image ≡ None → is_queue_or_master given image ≡ true
-    → Tells (line (codes "not one btree, hash or recno")) 14 err status
-    → Ends (IsShapedAnswer limit shape given image) (moved written written faults faults) err status
-other_ends limit shape given image written faults err status asked none other tells =
-    refused_ends 14 limit (line (codes "not one btree, hash or recno")) shape given image written faults err status (λ five. omega arith) (λ seven. omega arith)
-    (refusal_is shape given image asked ∙ ap (λ (it : Option Unsupported). not_one it (is_queue_or_master given image)) none ∙ ap (not_one None) other) tells
+refused_finishes : (refusal : RepairRefusal) (written : Option (List ℕ)) (faults : ℕ) (err : Change) (status : ℕ)
+    → Tells (refused_answer refusal).err (refused_answer refusal).status err status
+    → Finishes (refused_answer refusal) (moved written written faults faults) err status
+refused_finishes (Case name) written faults err status tells =
+    told_finishes 3 (unsupported_line name 0) written faults err status (λ five. omega arith) (λ seven. omega arith) tells
+refused_finishes NotOne written faults err status tells =
+    told_finishes 14 (line (codes "not one btree, hash or recno")) written faults err status (λ five. omega arith) (λ seven. omega arith) tells
 
--- Else the file is built.
+pub unrepaired_ends : (limit : ℕ) (refusal : RepairRefusal) (built : Built) (given : Option Guess) (image : List ℕ) (written : Option (List ℕ)) (faults : ℕ)
+    (err : Change) (status : ℕ) → repair_refusal built given image ≡ Some refusal
+    → (Tells (refused_answer refusal).err (refused_answer refusal).status err status ⊎ Tells memory_line 7 err status)
+    → Ends (IsRepairAnswer limit built given image) (moved written written faults faults) err status
+unrepaired_ends limit refusal built given image written faults err status is (inl tells) =
+    Answered (refused_answer refusal) (refused limit refusal built given image is) (refused_finishes refusal written faults err status tells)
+unrepaired_ends limit refusal built given image written faults err status is (inr tells) = Unanswered (keeps_itself written) tells
 
-unless_by : (refusal : Option Answer) (limit : ℕ) (shape : Option Shape) (given : Option Guess) (image : List ℕ) (answer : Answer) → refusal ≡ None
-    → IsRepairBy limit shape (chosen given image) image answer → IsRepairUnless refusal limit shape given image answer
-unless_by refusal limit shape given image answer none is =
-    subst (λ (it : Option Answer). IsRepairUnless it limit shape given image answer) (sym none) is
+each_allowed : (left : Option Unsupported) (other : Bool) (limit : ℕ) (found : Option Guess) (image : List ℕ) (result : Result (List ℕ) RepairError)
+    → refusal_by false left other ≡ None → Allows (IsApartAnswer limit found image) limit result → Allows (IsUnlessUnsupported left limit found image) limit result
+each_allowed None other limit found image result none allowed = allowed
+each_allowed (Some name) other limit found image result none allowed = absurd (let no : Some (Case name) ≡ None = none in cc)
 
-build_ends : (limit : ℕ) (shape : Option Shape) (given : Option Guess) (image : List ℕ) (out err : Change) (status : ℕ)
-    → shape_refusal shape given image ≡ None → Ends (IsRepairBy limit shape (chosen given image) image) out err status
-    → Ends (IsShapedAnswer limit shape given image) out err status
-build_ends limit shape given image out err status none (Answered answer is finishes) =
-    Answered answer (unless_by (shape_refusal shape given image) limit shape given image answer none is) finishes
-build_ends limit shape given image out err status none (Unanswered stays tells) = Unanswered stays tells
+one_allowed : (left : Option Unsupported) (other : Bool) (limit : ℕ) (shape : Option Shape) (given : Option Guess) (image : List ℕ)
+    (result : Result (List ℕ) RepairError) → refusal_by true left other ≡ None → Allows (IsRepairBy limit shape (chosen given image) image) limit result
+    → Allows (IsRepairUnless (not_one left other) limit shape given image) limit result
+one_allowed None false limit shape given image result none allowed = allowed
+one_allowed None true limit shape given image result none allowed = absurd (let no : Some NotOne ≡ None = none in cc)
+one_allowed (Some name) other limit shape given image result none allowed = absurd (let no : Some (Case name) ≡ None = none in cc)
 
-pub all_ends : (limit : ℕ) (shape : Option Shape) (given : Option Guess) (image : List ℕ) (out err : Change) (status : ℕ) → is_some shape ≡ false
-    → Ends (IsRepairBy limit shape (chosen given image) image) out err status → Ends (IsShapedAnswer limit shape given image) out err status
-all_ends limit None given image out err status none ends = build_ends limit None given image out err status refl ends
-all_ends limit (Some shape) given image out err status none ends = absurd (let no : true ≡ false = none in cc)
+repaired_allowed : (limit : ℕ) (built : Built) (given : Option Guess) (image : List ℕ) (result : Result (List ℕ) RepairError)
+    → repair_refusal built given image ≡ None → IsRepairBuilt limit built (chosen given image) image result → IfOk result (λ built. HasBuiltTables built)
+    → Allows (IsRepairAnswer limit built given image) limit result
+repaired_allowed limit Each given image result none is tables =
+    each_allowed (unsupported_case given image) (is_queue_or_master given image) limit (chosen given image) image result none
+    (apart_allowed limit (chosen given image) image result is tables)
+repaired_allowed limit (Shaped None) given image result none is tables = shaped_allowed limit None (chosen given image) image result is tables
+repaired_allowed limit (Shaped (Some shape)) given image result none is tables =
+    one_allowed (unsupported_case given image) (is_queue_or_master given image) limit (Some shape) given image result none
+    (shaped_allowed limit (Some shape) (chosen given image) image result is tables)
 
-pub one_ends : (limit : ℕ) (shape : Option Shape) (given : Option Guess) (image : List ℕ) (out err : Change) (status : ℕ) → is_some shape ≡ true
-    → unsupported_case given image ≡ None → is_queue_or_master given image ≡ false
-    → Ends (IsRepairBy limit shape (chosen given image) image) out err status → Ends (IsShapedAnswer limit shape given image) out err status
-one_ends limit shape given image out err status asked none one ends =
-    build_ends limit shape given image out err status
-    (refusal_is shape given image asked ∙ ap (λ (it : Option Unsupported). not_one it (is_queue_or_master given image)) none ∙ ap (not_one None) one) ends
+pub repaired_ends : (limit : ℕ) (built : Built) (given : Option Guess) (image : List ℕ) (result : Result (List ℕ) RepairError) (out err : Change) (status : ℕ)
+    → repair_refusal built given image ≡ None → IsRepairBuilt limit built (chosen given image) image result → IfOk result (λ built. HasBuiltTables built)
+    → IsBuiltTold limit result out err status → Ends (IsRepairAnswer limit built given image) out err status
+repaired_ends limit built given image result out err status none is tables told_so =
+    built_ends (IsRepairAnswer limit built given image) limit result out err status (repaired_allowed limit built given image result none is tables) told_so
 
 -- The status of an answer is one of its own.
 

@@ -1,7 +1,17 @@
 -- The two halves of a run: what it takes from the words and the source, and how it writes the answer.
-use Rattle.std.specs.Prelude.{◌≡◌, ◌⊎◌, ℕ, ◌+◌, List, Some, Result, Ok, Err, string_bytes}
+use Rattle.std.specs.Prelude.{◌≡◌, ◌⊎◌, ℕ, ◌+◌, ◌&&◌, Bool, false, true, if◌then◌else◌, List, Option, None, Some, Result, Ok, Err, codes, string_bytes}
+use Rattle.bdb_repair.specs.Apart.{IsRepairedApart}
+use Rattle.bdb_repair.specs.Repairs.{IsRepaired}
+use Rattle.bdb_repair.specs.of_format.declared.kinds.Unsupported.{Unsupported}
+use Rattle.bdb_repair.specs.of_rescue.Guesses.{is_queue_or_master, unsupported_case}
+use Rattle.bdb_repair.specs.of_survey.declared.guess.Guess.{Guess}
+use Rattle.bdb_repair.specs.of_text_format.Terms.{line}
+use Rattle.bdb_tool_words.specs.declared.command.Built.{Built}
+use Rattle.bdb_tool_words.specs.declared.command.Built.TheVariants.{Each, Shaped}
+use Rattle.bdb_tool.specs.declared.repairing.RepairRefusal.{RepairRefusal}
+use Rattle.bdb_tool.specs.declared.repairing.RepairRefusal.TheVariants.{Case, NotOne}
 use Rattle.bdb_repair.specs.of_any_order.declared.rows.Rows.TheVariants.{All}
-use Rattle.bdb_repair.specs.of_model.Answers.{Answer, done, told, too_large_line}
+use Rattle.bdb_repair.specs.of_model.Answers.{Answer, done, told, too_large_line, unsupported_line}
 use Rattle.bdb_tool_words.specs.Commands.{Request, usage}
 use Rattle.bdb_repair.specs.of_model.Change.{Change, HasFailed, Stays}
 use Rattle.bdb_repair.specs.of_model.Lines.{memory_line, read_fault_line}
@@ -25,6 +35,11 @@ use Rattle.bdb_tool_build.specs.Loads.{IsTextAnswer}
 use Rattle.bdb_tool_build.specs.Trials.{IsTrialAnswer}
 use Rattle.bdb_tool_ask.specs.of_tool_lines.Finished.{Finishes, Tells}
 
+-- the line of an input that is longer than a limit, or of a base that is
+abbrev pub too_long_line : Bool → ℕ → List ℕ
+too_long_line true limit = base_too_large_line limit
+too_long_line false limit = too_large_line limit
+
 -- it was told why there is no task to answer, or that memory ran out
 abbrev pub IsToldStop : Stop → Change → ℕ → Type 0
 IsToldStop Usage err status = Tells usage.err 2 err status
@@ -45,6 +60,13 @@ IsRefusalTold (FaultyText line) err status = Tells (string_bytes line) 8 err sta
 IsRefusalTold (TooLargeImage line) err status = Tells (string_bytes line) 6 err status
 IsRefusalTold MemoryRefusal err status = Tells memory_line 7 err status
 
+-- an image that was built was written, or it was told why there is none, or that memory ran out
+abbrev pub IsImageTold : Result (List ℕ) Refusal → Change → Change → ℕ → Type 0
+IsImageTold (Ok built) out err status = Finishes (done built) out err status
+IsImageTold (Err (FaultyText line)) out err status = Finishes (told 8 (string_bytes line)) out err status
+IsImageTold (Err (TooLargeImage line)) out err status = Finishes (told 6 (string_bytes line)) out err status
+IsImageTold (Err MemoryRefusal) out err status = Stays out × Tells memory_line 7 err status
+
 -- why nothing was built was told, or that memory ran out
 abbrev pub TellsWhy : ℕ → RepairError → Change → ℕ → Type 0
 TellsWhy limit NoMeta err status = Tells no_metadata.err 10 err status
@@ -58,6 +80,25 @@ IsBuiltTold limit (Err NoMeta) out err status = Finishes no_metadata out err sta
 IsBuiltTold limit (Err TooLargeFile) out err status =
     Finishes (told 6 (image_too_large_line limit)) out err status ⊎ (Stays out × Tells memory_line 7 err status)
 IsBuiltTold limit (Err WantOfMemory) out err status = Stays out × Tells memory_line 7 err status
+
+-- why an image isn't repaired: page 0 names a case that isn't supported, or one database is asked for and the file isn't one
+abbrev pub refusal_by : Bool → Option Unsupported → Bool → Option RepairRefusal
+refusal_by one (Some name) other = Some (Case name)
+refusal_by one None other = if one && other then Some NotOne else None
+
+abbrev pub repair_refusal : Built → Option Guess → List ℕ → Option RepairRefusal
+repair_refusal Each guess image = refusal_by false (unsupported_case guess image) (is_queue_or_master guess image)
+repair_refusal (Shaped None) guess image = None
+repair_refusal (Shaped (Some shape)) guess image = refusal_by true (unsupported_case guess image) (is_queue_or_master guess image)
+
+abbrev pub refused_answer : RepairRefusal → Answer
+refused_answer (Case name) = told 3 (unsupported_line name 0)
+refused_answer NotOne = told 14 (line (codes "not one btree, hash or recno"))
+
+-- what is built where nothing refuses it
+abbrev pub IsRepairBuilt : ℕ → Built → Option Guess → List ℕ → Result (List ℕ) RepairError → Type 0
+IsRepairBuilt limit Each guess image built = IsRepairedApart limit guess image built
+IsRepairBuilt limit (Shaped shape) guess image built = IsRepaired limit shape guess image built
 
 -- one of the answers that are allowed was written, or memory ran out before one was known
 pub data Ends (allowed : Answer → Type 0) (out err : Change) (status : ℕ) : Type 0 where

@@ -6,9 +6,9 @@ ghost use Rattle.bdb_tool.specs.Tasks.{IsFitTask};
 
 use crate::building::{answer_load, answer_trial};
 use crate::repairing::answer_repair;
-use crate::salvaging::{answer_salvage, answer_survey};
+use crate::salvaging::{Extract, Wanted, answer_damaged, wanted_of};
 use crate::task::Task;
-use bdb_repair::{Sink, Steps};
+use bdb_repair::{Sink, Steps, unsupported_case};
 use bdb_tool_ask::{answer_file, answer_reading};
 use std::alloc::Global;
 use std::sync::ledger::Ledger;
@@ -30,12 +30,16 @@ pub(crate) fn answer<K: Sink, E: Sink, L: Ledger>(
         }
         Task::Ask(request, image) => answer_file(alloc, image.bytes(), &request, out, err, steps),
         Task::Load(text, limit) => answer_load(alloc, text, limit, out, err),
-        Task::Salvage(asked, image) => answer_salvage(alloc, image.bytes(), asked, out, err, steps),
+        Task::Salvage(asked, image) => {
+            let wanted = wanted_of(asked);
+            answer_damaged(alloc, image.bytes(), asked.guess, wanted, out, err, steps)
+        }
         Task::Repair(asked, image, limit) => {
             answer_repair(alloc, image.bytes(), asked, limit, out, err, steps)
         }
         Task::Survey(guess, image) => {
-            answer_survey(alloc, image.bytes(), guess, out, err, steps)
+            let wanted = Wanted::Extract(Extract::Survey(unsupported_case(None, image.bytes())));
+            answer_damaged(alloc, image.bytes(), guess, wanted, out, err, steps)
         }
         Task::Trial(trial, limit) => answer_trial(alloc, trial, limit, out, err, steps),
     }

@@ -3,17 +3,15 @@ ghost use Rattle.std.specs.Prelude.{◌≤◌, ◌^◌, length};
 ghost use Rattle.bdb_repair.specs.of_model.Change.{change};
 ghost use Rattle.bdb_repair.specs.of_format.Terms.{verdict_of};
 ghost use Rattle.bdb_tool.specs.Ontos.{IsOntoBy};
-ghost use Rattle.bdb_tool.specs.Parts.{Ends, IsRefusalTold};
+ghost use Rattle.bdb_tool.specs.Parts.{Ends, IsImageTold, IsRefusalTold};
 ghost use Rattle.bdb_tool_words.specs.WordsSeen.{IsFitTrial};
-ghost use Rattle.bdb_tool_build.specs.of_onto.Bases.{IsBase};
 ghost use Rattle.bdb_tool_build.specs.Loads.{IsTextAnswer};
-ghost use Rattle.bdb_tool_build.specs.Ontos.{IsTextOnto};
 ghost use Rattle.bdb_tool_build.specs.Trials.{IsTrialAnswer};
 
 use bdb_repair::{Image, Sink, Steps};
 use bdb_tool_ask::status::{BAD_TEXT, TOO_LARGE};
 use bdb_tool_ask::{put, refuse, report, tell, tell_memory};
-use bdb_tool_build::{Base, Refusal, base_of, load_text, load_text_onto, trial_text};
+use bdb_tool_build::{Refusal, base_of, load_text, load_text_onto, trial_text};
 use bdb_tool_words::Trial;
 use std::alloc::Global;
 use std::sync::ledger::Ledger;
@@ -29,6 +27,16 @@ fn tell_refusal<E: Sink>(refusal: Refusal, err: &mut E) -> u8
     }
 }
 
+// Writes an image that was built, or tells why there is none.
+fn answer_built<K: Sink, E: Sink>(built: Result<Image, Refusal>, out: &mut K, err: &mut E) -> u8
+    ensures { IsImageTold built (change K.written K.faults out.old out.new) (change E.written E.faults err.old err.new) result }
+{
+    match built {
+        Ok(image) => report(put(out, image.bytes()), err),
+        Err(refusal) => tell_refusal(refusal, err),
+    }
+}
+
 /// Answers `load` of a text, which is given up once it is read. Nothing is written before the image stands whole.
 pub(crate) fn answer_load<K: Sink, E: Sink>(
     alloc: Global,
@@ -41,30 +49,8 @@ pub(crate) fn answer_load<K: Sink, E: Sink>(
     requires limit { limit ≤ 2 ^ 30 }
     ensures { Ends (IsTextAnswer limit text) (change K.written K.faults out.old out.new) (change E.written E.faults err.old err.new) result }
 {
-    match load_text(alloc, text, limit) {
-        Ok(image) => report(put(out, image.bytes()), err),
-        Err(refusal) => tell_refusal(refusal, err),
-    }
-}
-
-// Answers `load` of a text onto the base of a sound file.
-fn answer_on_base<K: Sink, E: Sink>(
-    alloc: Global,
-    text: Image,
-    base: Base,
-    limit: u32,
-    out: &mut K,
-    err: &mut E,
-) -> u8
-    requires text { length text ≤ 2 ^ 30 }
-    requires limit { limit ≤ 2 ^ 30 }
-    requires base { IsBase base }
-    ensures { Ends (IsTextOnto limit base text) (change K.written K.faults out.old out.new) (change E.written E.faults err.old err.new) result }
-{
-    match load_text_onto(alloc, text, base, limit) {
-        Ok(image) => report(put(out, image.bytes()), err),
-        Err(refusal) => tell_refusal(refusal, err),
-    }
+    let built = load_text(alloc, text, limit);
+    answer_built(built, out, err)
 }
 
 /// Answers `load` of a text onto a base, whose image is given up once its databases are copied. Nothing is written before the image
@@ -85,7 +71,10 @@ pub(crate) fn answer_onto<K: Sink, E: Sink, L: Ledger>(
         (change E.written E.faults err.old err.new) result }
 {
     match base_of(alloc, image, steps) {
-        Ok(base) => answer_on_base(alloc, text, base, limit, out, err),
+        Ok(base) => {
+            let built = load_text_onto(alloc, text, base, limit);
+            answer_built(built, out, err)
+        }
         Err(error) => refuse(alloc, error, err),
     }
 }

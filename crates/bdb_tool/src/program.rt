@@ -1,15 +1,17 @@
-ghost use Rattle.std.specs.Prelude.{◌≡◌, ◌≤◌, ◌^◌, List, Some, false, length, ℕ};
+ghost use Rattle.std.specs.Prelude.{◌≡◌, ◌⊎◌, ◌≤◌, ◌^◌, List, Some, false, length, ℕ};
 ghost use Rattle.bdb_repair.specs.of_model.Change.{change};
+ghost use Rattle.bdb_repair.specs.of_model.Lines.{memory_line};
 ghost use Rattle.bdb_tool_words.specs.Commands.{command_on};
 ghost use Rattle.bdb_tool.specs.Outputs.{Asked, asked_alone};
-ghost use Rattle.bdb_tool.specs.Parts.{EndsOnto, IsToldOfBase, IsToldStop};
+ghost use Rattle.bdb_tool.specs.Parts.{EndsOnto, IsToldOfBase, IsToldStop, too_long_line};
+ghost use Rattle.bdb_tool_ask.specs.of_tool_lines.Finished.{Tells};
 ghost use Rattle.bdb_tool.specs.Runs.{RunsAs, RunsOn, base_change};
 ghost use Rattle.bdb_tool_words.specs.WordsSeen.{AreOnto};
 
 use crate::answer::answer;
 use crate::building::answer_onto;
 use crate::task::{Stop, input_of, task_of};
-use crate::text::{base_too_large_line, too_large_line};
+use crate::text::too_long_line;
 use bdb_repair::{Image, PureSource, Sink, Source, Steps, Words};
 use bdb_tool_ask::status::{READ_FAULT, TOO_LARGE};
 use bdb_tool_ask::{tell, tell_memory, tell_usage};
@@ -156,15 +158,23 @@ fn load_text_onto<B: Source, K: Sink, E: Sink, L: Ledger>(
     }
 }
 
+// Tells that the input is longer than this many bytes, or the base is.
+fn tell_too_long<E: Sink>(alloc: Global, is_base: bool, limit: u32, err: &mut E) -> u8
+    ensures { Tells (too_long_line is_base limit) 6 (change E.written E.faults err.old err.new) result
+        ⊎ Tells memory_line 7 (change E.written E.faults err.old err.new) result }
+{
+    match too_long_line(alloc, is_base, limit) {
+        Ok(line) => tell(err, line.as_bytes(), TOO_LARGE),
+        Err(_) => tell_memory(err),
+    }
+}
+
 // Tells why a base isn't read.
 fn tell_unread_base<E: Sink>(alloc: Global, stop: Stop, err: &mut E) -> u8
     ensures { IsToldOfBase stop (change E.written E.faults err.old err.new) result }
 {
     match stop {
-        Stop::TooLarge(limit) => match base_too_large_line(alloc, limit) {
-            Ok(line) => tell(err, line.as_bytes(), TOO_LARGE),
-            Err(_) => tell_memory(err),
-        },
+        Stop::TooLarge(limit) => tell_too_long(alloc, true, limit, err),
         Stop::Usage | Stop::ReadFault | Stop::Memory => stopped(alloc, stop, err),
     }
 }
@@ -175,10 +185,7 @@ fn stopped<E: Sink>(alloc: Global, stop: Stop, err: &mut E) -> u8
 {
     match stop {
         Stop::Usage => tell_usage(err),
-        Stop::TooLarge(limit) => match too_large_line(alloc, limit) {
-            Ok(line) => tell(err, line.as_bytes(), TOO_LARGE),
-            Err(_) => tell_memory(err),
-        },
+        Stop::TooLarge(limit) => tell_too_long(alloc, false, limit, err),
         Stop::ReadFault => tell(err, b"read fault\n", READ_FAULT),
         Stop::Memory => tell_memory(err),
     }

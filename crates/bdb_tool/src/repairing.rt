@@ -1,18 +1,18 @@
 //! The command that puts what is salvaged into a new file.
-ghost use Rattle.std.specs.Prelude.{◌⊎◌, ◌≤◌, ◌^◌, IfSome, IsTrue, length};
-ghost use Rattle.bdb_repair.specs.of_format.Terms.{is_page_size};
+ghost use Rattle.std.specs.Prelude.{◌≡◌, ◌⊎◌, ◌≤◌, ◌^◌, IfOk, length};
+ghost use Rattle.bdb_repair.specs.of_mkfile.NamedImages.{HasBuiltTables};
 ghost use Rattle.bdb_repair.specs.of_model.Change.{change};
 ghost use Rattle.bdb_repair.specs.of_model.Lines.{memory_line};
-ghost use Rattle.bdb_repair.specs.of_rescue.Guesses.{chosen, unsupported_case};
-ghost use Rattle.bdb_tool.specs.Outputs.{IsApartAnswer, IsRepairAnswer, IsRepairBy, IsShapedAnswer, IsUnlessUnsupported};
+ghost use Rattle.bdb_repair.specs.of_rescue.Guesses.{chosen, is_queue_or_master, unsupported_case};
+ghost use Rattle.bdb_tool.specs.Outputs.{IsRepairAnswer};
 ghost use Rattle.bdb_tool_ask.specs.of_tool_lines.Finished.{Tells};
-ghost use Rattle.bdb_tool.specs.Parts.{Ends, IsBuiltTold, TellsWhy};
+ghost use Rattle.bdb_tool.specs.Parts.{Ends, IsBuiltTold, IsRepairBuilt, TellsWhy, refusal_by, refused_answer, repair_refusal};
 ghost use Rattle.bdb_tool_words.specs.WordsSeen.{IsFitRepair};
 ghost use Rattle.bdb_tool_build.specs.Lines.{image_too_large_line};
 
 use bdb_repair::{
-    Guess, Image, RepairError, Shape, Sink, Steps, is_queue_or_master, repair_apart, repair_as,
-    unsupported_case,
+    Guess, Image, RepairError, Sink, Steps, Unsupported, is_queue_or_master, repair_apart,
+    repair_as, unsupported_case,
 };
 use bdb_tool_ask::status::{NO_META, NOT_ONE, TOO_LARGE};
 use bdb_tool_ask::{put, report, tell, tell_case, tell_memory};
@@ -20,6 +20,14 @@ use bdb_tool_build::image_too_large_line;
 use bdb_tool_words::{Built, Repair};
 use std::alloc::Global;
 use std::sync::ledger::Ledger;
+
+/// Why an image isn't repaired, whatever is salvaged of it: page 0 names a case that isn't supported, or says that the file isn't of the one database that is
+/// asked for.
+#[derive(Clone, Copy)]
+pub(crate) enum RepairRefusal {
+    Case(Unsupported),
+    NotOne,
+}
 
 /// Tells that the image would have more bytes than its limit.
 fn tell_too_large<E: Sink>(alloc: Global, limit: u32, err: &mut E) -> u8
@@ -59,97 +67,59 @@ fn answer_built<K: Sink, E: Sink>(
     }
 }
 
-// Answers with a file of the stored pairs and the loose records, or of one database of a shape.
-fn repair_shaped<K: Sink, E: Sink, L: Ledger>(
-    alloc: Global,
-    image: &[u8],
-    shape: Option<Shape>,
-    guess: Option<Guess>,
-    limit: u32,
-    out: &mut K,
-    err: &mut E,
-    steps: &mut Steps<L>,
-) -> u8
-    requires size { length image.now ≤ 2 ^ 30 }
-    requires guess { IfSome guess (λ guess. IsTrue (is_page_size guess.page_size)) }
-    requires limit { limit ≤ 2 ^ 30 }
-    ensures { Ends (IsRepairBy limit shape (chosen guess image.now) image.now)
-        (change K.written K.faults out.old out.new) (change E.written E.faults err.old err.new) result }
+// Why a file isn't made one of one database; other files are refused by page 0 alone.
+fn refusal_by(one: bool, guess: Option<Guess>, image: &[u8]) -> Option<RepairRefusal>
+    ensures { result ≡ refusal_by one (unsupported_case guess image.now) (is_queue_or_master guess image.now) }
 {
-    let max = u64::from(limit);
-    let built = repair_as(alloc, image, shape, guess, max, steps);
-    answer_built(alloc, built, limit, out, err)
-}
-
-// The same, unless one database is asked for, and page 0 tells that the file is another's.
-fn repair_one<K: Sink, E: Sink, L: Ledger>(
-    alloc: Global,
-    image: &[u8],
-    shape: Option<Shape>,
-    guess: Option<Guess>,
-    limit: u32,
-    out: &mut K,
-    err: &mut E,
-    steps: &mut Steps<L>,
-) -> u8
-    requires size { length image.now ≤ 2 ^ 30 }
-    requires guess { IfSome guess (λ guess. IsTrue (is_page_size guess.page_size)) }
-    requires limit { limit ≤ 2 ^ 30 }
-    ensures { Ends (IsShapedAnswer limit shape guess image.now)
-        (change K.written K.faults out.old out.new) (change E.written E.faults err.old err.new) result }
-{
-    if shape.is_none() {
-        return repair_shaped(alloc, image, shape, guess, limit, out, err, steps);
-    }
     if let Some(case) = unsupported_case(guess, image) {
-        return tell_case(alloc, case, err);
+        return Some(RepairRefusal::Case(case));
     }
-    if is_queue_or_master(guess, image) {
-        return tell(err, b"not one btree, hash or recno\n", NOT_ONE);
+    if one && is_queue_or_master(guess, image) {
+        return Some(RepairRefusal::NotOne);
     }
-    repair_shaped(alloc, image, shape, guess, limit, out, err, steps)
+    None
 }
 
-// Answers with a file of each database that is found.
-fn repair_found<K: Sink, E: Sink, L: Ledger>(
+// Why an image isn't repaired, whatever is salvaged of it.
+fn refusal_of(asked: Repair, image: &[u8]) -> Option<RepairRefusal>
+    ensures { result ≡ repair_refusal asked.built asked.guess image.now }
+{
+    match asked.built {
+        Built::Each => refusal_by(false, asked.guess, image),
+        Built::Shaped(None) => None,
+        Built::Shaped(Some(_)) => refusal_by(true, asked.guess, image),
+    }
+}
+
+// Tells why an image isn't repaired.
+fn tell_refusal<E: Sink>(alloc: Global, refusal: RepairRefusal, err: &mut E) -> u8
+    ensures { Tells (refused_answer refusal).err (refused_answer refusal).status (change E.written E.faults err.old err.new) result
+        ⊎ Tells memory_line 7 (change E.written E.faults err.old err.new) result }
+{
+    match refusal {
+        RepairRefusal::Case(case) => tell_case(alloc, case, err),
+        RepairRefusal::NotOne => tell(err, b"not one btree, hash or recno\n", NOT_ONE),
+    }
+}
+
+// A file of the stored pairs and the loose records, of one database of a shape, or of each database that is found.
+fn built_of<L: Ledger>(
     alloc: Global,
     image: &[u8],
-    guess: Option<Guess>,
+    asked: Repair,
     limit: u32,
-    out: &mut K,
-    err: &mut E,
     steps: &mut Steps<L>,
-) -> u8
+) -> Result<Image, RepairError>
     requires size { length image.now ≤ 2 ^ 30 }
-    requires guess { IfSome guess (λ guess. IsTrue (is_page_size guess.page_size)) }
+    requires guess { IsFitRepair asked }
     requires limit { limit ≤ 2 ^ 30 }
-    ensures { Ends (IsApartAnswer limit (chosen guess image.now) image.now)
-        (change K.written K.faults out.old out.new) (change E.written E.faults err.old err.new) result }
+    ensures built { IsRepairBuilt limit asked.built (chosen asked.guess image.now) image.now result }
+    ensures tables { IfOk result (λ built. HasBuiltTables built) }
 {
     let max = u64::from(limit);
-    let built = repair_apart(alloc, image, guess, max, steps);
-    answer_built(alloc, built, limit, out, err)
-}
-
-// The same, unless page 0 names an unsupported case.
-fn repair_each<K: Sink, E: Sink, L: Ledger>(
-    alloc: Global,
-    image: &[u8],
-    guess: Option<Guess>,
-    limit: u32,
-    out: &mut K,
-    err: &mut E,
-    steps: &mut Steps<L>,
-) -> u8
-    requires size { length image.now ≤ 2 ^ 30 }
-    requires guess { IfSome guess (λ guess. IsTrue (is_page_size guess.page_size)) }
-    requires limit { limit ≤ 2 ^ 30 }
-    ensures { Ends (IsUnlessUnsupported (unsupported_case guess image.now) limit (chosen guess image.now) image.now)
-        (change K.written K.faults out.old out.new) (change E.written E.faults err.old err.new) result }
-{
-    match unsupported_case(guess, image) {
-        Some(case) => tell_case(alloc, case, err),
-        None => repair_found(alloc, image, guess, limit, out, err, steps),
+    match asked.built {
+        Built::Each => repair_apart(alloc, image, asked.guess, max, steps),
+        Built::Shaped(shape) => repair_as(alloc, image, shape, asked.guess, max, steps),
     }
 }
 
@@ -164,15 +134,14 @@ pub(crate) fn answer_repair<K: Sink, E: Sink, L: Ledger>(
     steps: &mut Steps<L>,
 ) -> u8
     requires size { length image.now ≤ 2 ^ 30 }
-    requires guess { IsFitRepair asked }
     requires limit { limit ≤ 2 ^ 30 }
+    requires guess { IsFitRepair asked }
     ensures { Ends (IsRepairAnswer limit asked.built asked.guess image.now)
         (change K.written K.faults out.old out.new) (change E.written E.faults err.old err.new) result }
 {
-    match asked.built {
-        Built::Each => repair_each(alloc, image, asked.guess, limit, out, err, steps),
-        Built::Shaped(shape) => {
-            repair_one(alloc, image, shape, asked.guess, limit, out, err, steps)
-        }
+    if let Some(refusal) = refusal_of(asked, image) {
+        return tell_refusal(alloc, refusal, err);
     }
+    let built = built_of(alloc, image, asked, limit, steps);
+    answer_built(alloc, built, limit, out, err)
 }

@@ -1,11 +1,10 @@
 //! The commands that read a damaged image: its texts, and what it still has.
-ghost use Rattle.std.specs.Prelude.{◌≤◌, ◌^◌, length};
-ghost use Rattle.bdb_repair.specs.of_apart.Found.{found};
+ghost use Rattle.std.specs.Prelude.{◌≡◌, ◌≤◌, ◌^◌, Some, length};
 ghost use Rattle.bdb_repair.specs.of_model.Change.{change};
-ghost use Rattle.bdb_repair.specs.of_rescue.Guesses.{chosen, unsupported_case};
-ghost use Rattle.bdb_tool.specs.Outputs.{apart_answer, extract_answer, extract_by, parts_answer, salvage_answer, survey_answer, unless_unsupported};
+ghost use Rattle.bdb_tool.specs.Outputs.{extract_answer};
+ghost use Rattle.bdb_tool.specs.Wants.{case_of, wanted_answer, wanted_by, wanted_of};
 ghost use Rattle.bdb_tool_ask.specs.of_tool_lines.Finished.{Finishes};
-ghost use Rattle.bdb_tool_words.specs.WordsSeen.{IsFitGuess, IsFitSalvage};
+ghost use Rattle.bdb_tool_words.specs.WordsSeen.{IsFitGuess};
 
 use bdb_repair::{
     Apart, Guess, SalvageError, Salvaged, Sink, Steps, Unsupported, apart_of, salvage,
@@ -28,20 +27,31 @@ pub(crate) enum Extract {
     Survey(Option<Unsupported>),
 }
 
-// Answers with each database that is found.
-fn answer_found<K: Sink, E: Sink>(
-    alloc: Global,
-    apart: &Apart<'_, '_>,
-    print: bool,
-    out: &mut K,
-    err: &mut E,
-) -> u8
-    ensures { Finishes (apart_answer (found apart.now) print apart.now)
-        (change K.written K.faults out.old out.new) (change E.written E.faults err.old err.new) result }
+/// What is wanted of a damaged image: what is salvaged, all together, where data may be printed, or what is told of it database by database.
+#[derive(Clone, Copy)]
+pub(crate) enum Wanted {
+    Together(bool),
+    Extract(Extract),
+}
+
+/// What `salvage` wants.
+pub(crate) fn wanted_of(asked: Salvage) -> Wanted
+    ensures { result ≡ wanted_of asked }
 {
-    match apart.databases().next() {
-        Some(_) => report(write_apart(alloc, out, apart, print), err),
-        None => tell(err, b"no metadata page\n", NO_META),
+    match asked.parts {
+        Parts::Together => Wanted::Together(asked.print),
+        Parts::Apart => Wanted::Extract(Extract::Apart(asked.print)),
+        Parts::Rest => Wanted::Extract(Extract::Rest(asked.print)),
+    }
+}
+
+// The case that page 0 names, where it's told in place of what is wanted.
+fn case_of(wanted: Wanted, guess: Option<Guess>, image: &[u8]) -> Option<Unsupported>
+    ensures { result ≡ case_of wanted guess image.now }
+{
+    match wanted {
+        Wanted::Extract(Extract::Apart(_) | Extract::Rest(_)) => unsupported_case(guess, image),
+        Wanted::Extract(Extract::Survey(_)) | Wanted::Together(_) => None,
     }
 }
 
@@ -57,135 +67,58 @@ fn answer_known<K: Sink, E: Sink>(
         (change K.written K.faults out.old out.new) (change E.written E.faults err.old err.new) result }
 {
     match extract {
-        Extract::Apart(print) => answer_found(alloc, apart, print, out, err),
+        Extract::Apart(print) => match apart.databases().next() {
+            Some(_) => report(write_apart(alloc, out, apart, print), err),
+            None => tell(err, b"no metadata page\n", NO_META),
+        },
         Extract::Rest(print) => report(write_rest(alloc, out, apart, print), err),
         Extract::Survey(case) => report(write_survey(alloc, out, apart, case), err),
     }
 }
 
-// The same of what is salvaged.
-fn answer_apart<K: Sink, E: Sink, L: Ledger>(
+// Answers with what is wanted of what is salvaged.
+fn answer_salvaged<K: Sink, E: Sink, L: Ledger>(
     alloc: Global,
     salvaged: &Salvaged<'_>,
-    extract: Extract,
+    wanted: Wanted,
     out: &mut K,
     err: &mut E,
     steps: &mut Steps<L>,
 ) -> u8
-    ensures { Finishes (extract_answer extract salvaged.now)
+    requires { length salvaged.now.image ≤ 2 ^ 30 }
+    ensures { Finishes (wanted_by wanted (Some salvaged.now.guess) salvaged.now.image)
         (change K.written K.faults out.old out.new) (change E.written E.faults err.old err.new) result }
 {
-    match apart_of(alloc, salvaged, steps) {
-        Ok(apart) => answer_known(alloc, &apart, extract, out, err),
-        Err(_) => tell_memory(err),
+    match wanted {
+        Wanted::Together(print) => report(write_salvaged(alloc, out, salvaged, print), err),
+        Wanted::Extract(extract) => match apart_of(alloc, salvaged, steps) {
+            Ok(apart) => answer_known(alloc, &apart, extract, out, err),
+            Err(_) => tell_memory(err),
+        },
     }
 }
 
-// The same of an image, by the guess that is given or that page 0 tells.
-fn answer_extract<K: Sink, E: Sink, L: Ledger>(
+/// Answers with what is wanted of an image, by the guess that is given or that page 0 tells.
+pub(crate) fn answer_damaged<K: Sink, E: Sink, L: Ledger>(
     alloc: Global,
     image: &[u8],
     guess: Option<Guess>,
-    extract: Extract,
+    wanted: Wanted,
     out: &mut K,
     err: &mut E,
     steps: &mut Steps<L>,
 ) -> u8
     requires size { length image.now ≤ 2 ^ 30 }
     requires guess { IsFitGuess guess }
-    ensures { Finishes (extract_by (chosen guess image.now) extract image.now)
+    ensures { Finishes (wanted_answer wanted guess image.now)
         (change K.written K.faults out.old out.new) (change E.written E.faults err.old err.new) result }
 {
+    if let Some(case) = case_of(wanted, guess, image) {
+        return tell_case(alloc, case, err);
+    }
     match salvage(alloc, image, guess, steps) {
-        Ok(salvaged) => answer_apart(alloc, &salvaged, extract, out, err, steps),
+        Ok(salvaged) => answer_salvaged(alloc, &salvaged, wanted, out, err, steps),
         Err(SalvageError::NoMeta) => tell(err, b"no metadata page\n", NO_META),
         Err(SalvageError::Memory) => tell_memory(err),
     }
-}
-
-// The same, unless page 0 names an unsupported case.
-fn answer_supported<K: Sink, E: Sink, L: Ledger>(
-    alloc: Global,
-    image: &[u8],
-    guess: Option<Guess>,
-    extract: Extract,
-    out: &mut K,
-    err: &mut E,
-    steps: &mut Steps<L>,
-) -> u8
-    requires size { length image.now ≤ 2 ^ 30 }
-    requires guess { IsFitGuess guess }
-    ensures { Finishes (unless_unsupported (unsupported_case guess image.now) (extract_by (chosen guess image.now) extract image.now))
-        (change K.written K.faults out.old out.new) (change E.written E.faults err.old err.new) result }
-{
-    match unsupported_case(guess, image) {
-        Some(case) => tell_case(alloc, case, err),
-        None => answer_extract(alloc, image, guess, extract, out, err, steps),
-    }
-}
-
-// Answers with what is salvaged, all together.
-fn salvage_together<K: Sink, E: Sink, L: Ledger>(
-    alloc: Global,
-    image: &[u8],
-    asked: Salvage,
-    out: &mut K,
-    err: &mut E,
-    steps: &mut Steps<L>,
-) -> u8
-    requires size { length image.now ≤ 2 ^ 30 }
-    requires guess { IsFitSalvage asked }
-    ensures { Finishes (salvage_answer asked.guess asked.print image.now)
-        (change K.written K.faults out.old out.new) (change E.written E.faults err.old err.new) result }
-{
-    match salvage(alloc, image, asked.guess, steps) {
-        Ok(salvaged) => report(write_salvaged(alloc, out, &salvaged, asked.print), err),
-        Err(SalvageError::NoMeta) => tell(err, b"no metadata page\n", NO_META),
-        Err(SalvageError::Memory) => tell_memory(err),
-    }
-}
-
-/// Answers `salvage` of an image.
-pub(crate) fn answer_salvage<K: Sink, E: Sink, L: Ledger>(
-    alloc: Global,
-    image: &[u8],
-    asked: Salvage,
-    out: &mut K,
-    err: &mut E,
-    steps: &mut Steps<L>,
-) -> u8
-    requires size { length image.now ≤ 2 ^ 30 }
-    requires guess { IsFitSalvage asked }
-    ensures { Finishes (parts_answer asked.parts asked.guess asked.print image.now)
-        (change K.written K.faults out.old out.new) (change E.written E.faults err.old err.new) result }
-{
-    match asked.parts {
-        Parts::Together => salvage_together(alloc, image, asked, out, err, steps),
-        Parts::Apart => {
-            let extract = Extract::Apart(asked.print);
-            answer_supported(alloc, image, asked.guess, extract, out, err, steps)
-        }
-        Parts::Rest => {
-            let extract = Extract::Rest(asked.print);
-            answer_supported(alloc, image, asked.guess, extract, out, err, steps)
-        }
-    }
-}
-
-/// Answers `survey` of an image, by the guess that is given or that page 0 tells.
-pub(crate) fn answer_survey<K: Sink, E: Sink, L: Ledger>(
-    alloc: Global,
-    image: &[u8],
-    guess: Option<Guess>,
-    out: &mut K,
-    err: &mut E,
-    steps: &mut Steps<L>,
-) -> u8
-    requires size { length image.now ≤ 2 ^ 30 }
-    requires guess { IsFitGuess guess }
-    ensures { Finishes (survey_answer guess image.now)
-        (change K.written K.faults out.old out.new) (change E.written E.faults err.old err.new) result }
-{
-    let extract = Extract::Survey(unsupported_case(None, image));
-    answer_extract(alloc, image, guess, extract, out, err, steps)
 }

@@ -18,14 +18,14 @@ use Rattle.bdb_text_format.specs.declared.pairs.Key.TheVariants.{Bytes, Number}
 use Rattle.bdb_text_format.specs.Terms.{Extends, Gathering, HasChains, IsKeyPlaced, IsPiecePut, pair_with, placed_key}
 use Rattle.bdb_text_format.proofs.GatheredLemmas.{chains_same}
 use Rattle.bdb_text_format.proofs.PlacedLemmas.{key_stays, key_within}
-use Rattle.bdb_tool_build.specs.Gathered.{Adds, Grows, HasKey, InHand, with_key}
+use Rattle.bdb_tool_build.specs.Gathered.{Adds, Grows, HasKey, ImageInHand, with_key}
 
 -- The same pairs with a run that grew, and then more of them.
 
-pub adds_none : (it : InHand) (key : PlacedKey) → IsKeyPlaced it.gathered.bytes key → Adds it it key []
+pub adds_none : (it : ImageInHand) (key : PlacedKey) → IsKeyPlaced it.gathered.bytes key → Adds it it key []
 adds_none it key placed = record { image = refl; placed = placed; same = refl; pairs = sym (append-nil it.gathered.pairs) }
 
-pub adds_grown : (old mid new : InHand) (key : PlacedKey) (values : List (List ℕ)) → Grows old mid → IsKeyPlaced old.gathered.bytes key
+pub adds_grown : (old mid new : ImageInHand) (key : PlacedKey) (values : List (List ℕ)) → Grows old mid → IsKeyPlaced old.gathered.bytes key
     → Adds mid new key values → Adds old new key values
 adds_grown old mid new key values grows placed adds =
     let same : placed_key mid.gathered.bytes key ≡ placed_key old.gathered.bytes key =
@@ -38,12 +38,12 @@ adds_grown old mid new key values grows placed adds =
           ∙ ap (λ k. old.gathered.pairs ++ with_key k values) same);
     }
 
-pub adds_put : (old mid new : InHand) (key : PlacedKey) (piece : List ℕ) (span : Span) → Grows old mid → IsKeyPlaced old.gathered.bytes key
+pub adds_put : (old mid new : ImageInHand) (key : PlacedKey) (piece : List ℕ) (span : Span) → Grows old mid → IsKeyPlaced old.gathered.bytes key
     → IsPiecePut mid.gathered.bytes piece span → Adds mid new key (span_in mid.gathered.bytes span ∷ []) → Adds old new key (piece ∷ [])
 adds_put old mid new key piece span grows placed put adds =
     adds_grown old mid new key (piece ∷ []) grows placed (subst (λ bytes. Adds mid new key (bytes ∷ [])) put.same adds)
 
-adds_on : (old mid new : InHand) (key : PlacedKey) (some more all : List (List ℕ)) → Adds old mid key some → Adds mid new key more → all ≡ some ++ more
+adds_on : (old mid new : ImageInHand) (key : PlacedKey) (some more all : List (List ℕ)) → Adds old mid key some → Adds mid new key more → all ≡ some ++ more
     → Adds old new key all
 adds_on old mid new key some more all first second are =
     let k : Key = placed_key old.gathered.bytes key in
@@ -59,7 +59,7 @@ adds_on old mid new key some more all first second are =
           (sym (map-append (λ value. pair_with k value 0) some more) ∙ ap (with_key k) (sym are)))));
     }
 
-pub grown_key : (old new : InHand) (key : PlacedKey) → Grows old new → IsKeyPlaced old.gathered.bytes key → IsKeyPlaced new.gathered.bytes key
+pub grown_key : (old new : ImageInHand) (key : PlacedKey) → Grows old new → IsKeyPlaced old.gathered.bytes key → IsKeyPlaced new.gathered.bytes key
 grown_key old new key grows placed = key_within old.gathered.bytes new.gathered.bytes key grows.bytes placed
 
 -- What is noted stands where more pairs come.
@@ -78,16 +78,16 @@ entries_on file entry entries = by_test entry.deleted refl
     by_test true is = rw (is) refl
     by_test false is = rw (is) refl
 
-pub record AddsSoFar (old new : InHand) (key : PlacedKey) (all left : List (List ℕ)) : Type 0 where
+pub record AddsSoFar (old new : ImageInHand) (key : PlacedKey) (all left : List (List ℕ)) : Type 0 where
   pub passed : List (List ℕ)
   pub are : all ≡ passed ++ left
   pub adds : Adds old new key passed
 
-pub so_far_none : (it : InHand) (key : PlacedKey) (all : List (List ℕ)) → IsKeyPlaced it.gathered.bytes key → AddsSoFar it it key all all
+pub so_far_none : (it : ImageInHand) (key : PlacedKey) (all : List (List ℕ)) → IsKeyPlaced it.gathered.bytes key → AddsSoFar it it key all all
 so_far_none it key all placed = record { passed = []; are = refl; adds = adds_none it key placed }
 
 -- some more of them
-pub so_far_more : (old mid new : InHand) (key : PlacedKey) (all left more rest : List (List ℕ)) → AddsSoFar old mid key all left → left ≡ more ++ rest
+pub so_far_more : (old mid new : ImageInHand) (key : PlacedKey) (all left more rest : List (List ℕ)) → AddsSoFar old mid key all left → left ≡ more ++ rest
     → Adds mid new key more → AddsSoFar old new key all rest
 so_far_more old mid new key all left more rest so_far are adds = record {
   passed = so_far.passed ++ more;
@@ -96,7 +96,7 @@ so_far_more old mid new key all left more rest so_far are adds = record {
 }
 
 -- one more entry, in the image that is at hand
-pub so_far_entry : (old mid new : InHand) (key : PlacedKey) (all : List (List ℕ)) (left rest : List Item) (entry : Item)
+pub so_far_entry : (old mid new : ImageInHand) (key : PlacedKey) (all : List (List ℕ)) (left rest : List Item) (entry : Item)
     → AddsSoFar old mid key all (values_of (file_of old.image) left) → left ≡ entry ∷ rest
     → Adds mid new key (values_of (file_of mid.image) (entry ∷ [])) → AddsSoFar old new key all (values_of (file_of old.image) rest)
 so_far_entry old mid new key all left rest entry so_far are adds =
@@ -112,7 +112,7 @@ entry_fits image same left rest entry are is fit =
     subst (λ (i : List ℕ). FitsContent (file_of i) entry.content) (sym is)
     (All-head (λ (e : Item). FitsContent (file_of image) e.content) entry rest (subst (AreFit (file_of image)) are fit))
 
-pub so_far_all : (old new : InHand) (key : PlacedKey) (all left : List (List ℕ)) → AddsSoFar old new key all left → left ≡ [] → Adds old new key all
+pub so_far_all : (old new : ImageInHand) (key : PlacedKey) (all left : List (List ℕ)) → AddsSoFar old new key all left → left ≡ [] → Adds old new key all
 so_far_all old new key all left so_far none =
     subst (Adds old new key) (sym (so_far.are ∙ (ap (λ more. so_far.passed ++ more) none ∙ append-nil so_far.passed))) so_far.adds
 
@@ -126,7 +126,7 @@ pub listed_keyed : (key : List ℕ) (values : List (List ℕ)) → with_key (Byt
 listed_keyed key [] = refl
 listed_keyed key (value ∷ values) = ap (λ more. pair_with (Bytes key) value 0 ∷ more) (listed_keyed key values)
 
-pub pair_given : (old mid new : InHand) (key : PlacedKey) (pair : PairOf Item) → pair.value.deleted ≡ false → Grows old mid
+pub pair_given : (old mid new : ImageInHand) (key : PlacedKey) (pair : PairOf Item) → pair.value.deleted ≡ false → Grows old mid
     → HasKey mid (value_of (file_of old.image) pair.key.content) key → Adds mid new key (data_of (file_of mid.image) pair.value.content)
     → new.gathered.pairs ≡ old.gathered.pairs ++ map text_pair (listed_pair (file_of old.image) (stored_pair (file_of old.image) 0 pair))
 pair_given old mid new key pair live grows has adds =
@@ -149,7 +149,7 @@ record_given file number entry = by_test entry.deleted refl
     by_test false is = rw (is) refl
 
 -- what a pair of a hash lists
-pub told_given : (old mid new : InHand) (key : PlacedKey) (t : Told) → t.image ≡ old.image → Grows old mid → HasKey mid t.pair.key key
+pub told_given : (old mid new : ImageInHand) (key : PlacedKey) (t : Told) → t.image ≡ old.image → Grows old mid → HasKey mid t.pair.key key
     → Adds mid new key (data_of (file_of t.image) t.pair.data_item)
     → listed_told t ≡ entry_list t.pair.key (data_of (file_of t.image) t.pair.data_item)
     → new.gathered.pairs ≡ old.gathered.pairs ++ map text_pair (listed_told t)

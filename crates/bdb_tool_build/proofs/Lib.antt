@@ -4,6 +4,5 @@ pub mod GatheredLemmas
 pub mod LoadLemmas
 pub mod OntoLemmas
 pub mod RefusalLemmas
-pub mod TableLemmas
 pub mod TreeLemmas
 pub mod TrialLemmas

@@ -7,7 +7,7 @@ use Rattle.bdb_text_format.specs.declared.pairs.TextPair.{TextPair}
 use Rattle.bdb_text_format.specs.Terms.{Gathering, IsKeyPlaced, Keeps, pair_with, placed_key}
 
 -- pairs of an image
-pub record InHand : Type 0 where
+pub record ImageInHand : Type 0 where
   pub image : List ℕ
   pub gathered : Gathering
 
@@ -16,19 +16,19 @@ abbrev pub with_key : Key → List (List ℕ) → List TextPair
 with_key key values = map (λ value. pair_with key value 0) values
 
 -- the run grew
-pub record Grows (old new : InHand) : Type 0 where
+pub record Grows (old new : ImageInHand) : Type 0 where
   pub image : new.image ≡ old.image
   pub bytes : Keeps old.gathered.bytes new.gathered.bytes
   pub pairs : new.gathered.pairs ≡ old.gathered.pairs
 
 -- pairs of a key that stands in the run were added, with these data
-pub record Adds (old new : InHand) (key : PlacedKey) (values : List (List ℕ)) : Type 0 where
+pub record Adds (old new : ImageInHand) (key : PlacedKey) (values : List (List ℕ)) : Type 0 where
   pub image : new.image ≡ old.image
   pub placed : IsKeyPlaced new.gathered.bytes key
   pub same : placed_key new.gathered.bytes key ≡ placed_key old.gathered.bytes key
   pub pairs : new.gathered.pairs ≡ old.gathered.pairs ++ with_key (placed_key old.gathered.bytes key) values
 
 -- these bytes stand in the run as a key
-pub record HasKey (it : InHand) (bytes : List ℕ) (key : PlacedKey) : Type 0 where
+pub record HasKey (it : ImageInHand) (bytes : List ℕ) (key : PlacedKey) : Type 0 where
   pub placed : IsKeyPlaced it.gathered.bytes key
   pub same : placed_key it.gathered.bytes key ≡ Bytes bytes

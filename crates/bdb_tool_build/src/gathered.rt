@@ -35,9 +35,9 @@ impl<'a> Model for Gatherer<'a> {
     ghost use Rattle.bdb_model.specs.of_format.Terms.{file_of};
     ghost use Rattle.bdb_ranks.specs.of_overflow.Held.{chain_value};
     ghost use Rattle.bdb_text_format.specs.Terms.{HasChains};
-    ghost use Rattle.bdb_tool_build.specs.Gathered.{InHand};
+    ghost use Rattle.bdb_tool_build.specs.Gathered.{ImageInHand};
 
-    ghost Value = { InHand };
+    ghost Value = { ImageInHand };
 
     ghost view = { λ it. record { image = it.forest; gathered = it.pairs } };
 

@@ -94,23 +94,13 @@ fn next_leaf<'a>(forest: &Forest<'a>, leaves: &mut Leaves<'a>) -> OnLeaf<'a> {
 }
 
 /// The leaves of a tree, beside a walk over its entries: on which of them the next entry stands.
+#[derive(Drop)]
 pub(crate) struct BesideEntries<'a> {
     forest: Forest<'a>,
     leaves: Leaves<'a>,
     // How many entries of the leaf are left.
     left: usize,
     pub(crate) leaf: OnLeaf<'a>,
-}
-
-impl Drop for BesideEntries<'_> {
-    fn drop(self) {
-        let BesideEntries {
-            forest: _forest,
-            leaves: _leaves,
-            left: _left,
-            leaf: _leaf,
-        } = self;
-    }
 }
 
 impl<'a> BesideEntries<'a> {

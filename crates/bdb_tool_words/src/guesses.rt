@@ -3,6 +3,7 @@ ghost use Rattle.std.specs.Prelude.{◌≡◌, IfSome, IsTrue, option_copied};
 ghost use Rattle.bdb_model.specs.of_format.Terms.{is_page_size};
 ghost use Rattle.bdb_tool_words.specs.Commands.{guess_asked, order_named, page_size_named};
 
+use crate::named::named;
 use bdb_model::Order;
 use bdb_survey::Guess;
 
@@ -26,13 +27,7 @@ pub(crate) fn guess_asked(order: Option<&[u8]>, page_size: Option<&[u8]>) -> Opt
 pub(crate) fn order_named(word: &[u8]) -> Option<Order>
     ensures { result ≡ order_named word.now }
 {
-    if word == b"big".as_slice() {
-        Some(Order::Big)
-    } else if word == b"little".as_slice() {
-        Some(Order::Little)
-    } else {
-        None
-    }
+    named!(word; b"big" => Order::Big, b"little" => Order::Little)
 }
 
 // The legal page size with these digits.
@@ -40,21 +35,12 @@ fn page_size_named(word: &[u8]) -> Option<u32>
     ensures seen { result ≡ page_size_named word.now }
     ensures legal { IfSome result (λ page_size. IsTrue (is_page_size page_size)) }
 {
-    if word == b"512".as_slice() {
-        Some(512)
-    } else if word == b"1024".as_slice() {
-        Some(1024)
-    } else if word == b"2048".as_slice() {
-        Some(2048)
-    } else if word == b"4096".as_slice() {
-        Some(4096)
-    } else if word == b"8192".as_slice() {
-        Some(8192)
-    } else if word == b"16384".as_slice() {
-        Some(16384)
-    } else if word == b"32768".as_slice() {
-        Some(32768)
-    } else {
-        None
-    }
+    named!(word;
+        b"512" => 512,
+        b"1024" => 1024,
+        b"2048" => 2048,
+        b"4096" => 4096,
+        b"8192" => 8192,
+        b"16384" => 16384,
+        b"32768" => 32768)
 }

@@ -3,6 +3,7 @@
 
 mod command;
 mod guesses;
+mod named;
 mod options;
 mod shapes;
 mod values;

@@ -2,6 +2,7 @@
 ghost use Rattle.std.specs.Prelude.{◌≡◌, ◌≤◌, ◌^◌, IfSome, is_some, option_copied};
 ghost use Rattle.bdb_tool_words.specs.Commands.{asked_name, kind_named, limit_of, number_to, rows_by};
 
+use crate::named::named;
 use bdb_any_order::Rows;
 use bdb_model::{Kind, number_in};
 use bdb_spelling::is_spelling;
@@ -44,17 +45,11 @@ pub(crate) fn rows_by(any_order: bool) -> Rows
 pub(crate) fn kind_named(word: &[u8]) -> Option<Kind>
     ensures { result ≡ kind_named word.now }
 {
-    if word == b"btree".as_slice() {
-        Some(Kind::Btree)
-    } else if word == b"hash".as_slice() {
-        Some(Kind::Hash)
-    } else if word == b"recno".as_slice() {
-        Some(Kind::Recno)
-    } else if word == b"queue".as_slice() {
-        Some(Kind::Queue)
-    } else {
-        None
-    }
+    named!(word;
+        b"btree" => Kind::Btree,
+        b"hash" => Kind::Hash,
+        b"recno" => Kind::Recno,
+        b"queue" => Kind::Queue)
 }
 
 /// The number that a word of digits says, if it is at most another.

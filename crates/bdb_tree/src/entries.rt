@@ -43,20 +43,11 @@ impl<'a> LeafEntries<'a> {
 }
 
 /// The entries of a tree of records, or of a set off the page, that are left, deleted ones too.
+#[derive(Drop)]
 pub struct TreeEntries<'a> {
     forest: Forest<'a>,
     leaves: Leaves<'a>,
     entries: LeafEntries<'a>,
-}
-
-impl Drop for TreeEntries<'_> {
-    fn drop(self) {
-        let TreeEntries {
-            forest: _forest,
-            leaves: _leaves,
-            entries: _entries,
-        } = self;
-    }
 }
 
 impl<'a> Model for TreeEntries<'a> {

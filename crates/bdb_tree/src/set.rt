@@ -10,19 +10,10 @@ use std::marker::Model;
 
 /// The data of a set off the page that are left: the values of the live entries of its leaves, from left to
 /// right.
+#[derive(Drop)]
 pub struct SetValues<'a> {
     forest: Forest<'a>,
     entries: TreeEntries<'a>,
-}
-
-impl Drop for SetValues<'_> {
-    #[inline(always)]
-    fn drop(self) {
-        let SetValues {
-            forest: _forest,
-            entries: _entries,
-        } = self;
-    }
 }
 
 impl<'a> Model for SetValues<'a> {
@@ -58,11 +49,11 @@ impl<'a> Iterator for SetValues<'a> {
     ghost remaining = { item_count (λ left. left) };
 
     fn next(&mut self) -> Option<Datum<'a>> {
-        loop {
-            let entry = self.entries.next()?;
+        while let Some(entry) = self.entries.next() {
             if !is_deleted(&entry) {
                 return Some(value_of(&self.forest, &entry));
             }
         }
+        None
     }
 }

@@ -10,11 +10,11 @@ returns-clause-accepted c =
     let file : File = file_of c.args.linked.now in
     let faults : List Fault = database_faults file (BtreeFields c.args.meta.now) in
     c.checked.ensures.accepted faults (database_ascends file (BtreeFields c.args.meta.now))
-    (newly_noted c.note_alone-answer.result c.new-first.result c.note_alone-answer.new.found faults c.new-first.ensures c.note_alone-answer.ensures)
+    (newly_noted c.note_contents-answer.result c.new-first.result c.note_contents-answer.new.found faults c.new-first.ensures c.note_contents-answer.ensures.noted)
 
 pub returns-clause-refusal : goal.returns-clause-refusal
 returns-clause-refusal c =
     let file : File = file_of c.args.linked.now in
     let faults : List Fault = database_faults file (BtreeFields c.args.meta.now) in
     c.checked.ensures.refused faults (database_ascends file (BtreeFields c.args.meta.now))
-    (newly_noted c.note_alone-answer.result c.new-first.result c.note_alone-answer.new.found faults c.new-first.ensures c.note_alone-answer.ensures)
+    (newly_noted c.note_contents-answer.result c.new-first.result c.note_contents-answer.new.found faults c.new-first.ensures c.note_contents-answer.ensures.noted)

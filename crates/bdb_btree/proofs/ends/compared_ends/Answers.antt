@@ -1,9 +1,8 @@
 use Rattle.std.proofs.Common.{◌≡◌, ◌∙◌, List, ℕ, ap, map, refl, subst, sym, fold}
 use Rattle.bdb_ranks.specs.of_format.Terms.{File, file_of}
 use Rattle.bdb_ranks.specs.of_image.Linked.{IsForest}
-use Rattle.bdb_ranks.specs.of_overflow.Held.{FitsHeld}
 use Rattle.bdb_btree.specs.Bounds.{ends_of, widen_by}
-use Rattle.bdb_btree.specs.Held.{AreKeyed, items_of, pair_held, stored_as}
+use Rattle.bdb_btree.specs.Held.{AreKeyed, FitsEnds, items_of, pair_held, stored_as}
 use Rattle.bdb_btree.proofs.HeldLemmas.{first_keyed, page_keyed, page_stored}
 use Rattle.bdb_btree.proofs.ItemLemmas.{leaf_tree}
 use Rattle.bdb_btree.proofs.ends.compared_ends.Goals as goal
@@ -27,13 +26,14 @@ loop-pair-init c =
       same = refl;
     }
 
-pub see_key-requires-clause-key : goal.see_key-requires-clause-key
-see_key-requires-clause-key c =
+pub join-requires-clause-more : goal.join-requires-clause-more
+join-requires-clause-more c =
     let file : File = file_of c.args.known.now in
-    subst (λ (image : List ℕ). FitsHeld (file_of image) c.leaf_held.result) (sym c.loop-pair.invariant.same)
+    subst (λ (image : List ℕ). FitsEnds (file_of image) c.of.result) (sym c.loop-pair.invariant.same)
+    (c.of.ensures.fits file
     (c.leaf_held.ensures.fits file
     (first_keyed file c.loop-pair.pair-iterator c.next.new.self (pair_held c.in-Some-pair.pair) c.loop-pair.invariant.keyed
-    c.in-Some-pair.ensures.steps))
+    c.in-Some-pair.ensures.steps)))
 
 pub returns-in_default : goal.returns-in_default
 returns-in_default c =

@@ -5,9 +5,10 @@ use Rattle.bdb_apart.specs.Found.{found}
 use Rattle.bdb_apart.specs.Given.{pairs_left_on}
 use Rattle.bdb_damage.specs.Tallies.{IsBounded}
 use Rattle.bdb_damage.proofs.RoomLemmas.{left_few}
-use Rattle.bdb_damage.proofs.StepLemmas.{joined_sum, range_more}
+use Rattle.bdb_damage.proofs.StepLemmas.{joined_sum}
 use Rattle.bdb_damage.proofs.TotalLemmas.{rest_pairs_are}
 use Rattle.bdb_damage.proofs.counts.rest_pairs.Goals as goal
+use Rattle.bdb_apart.proofs.of_format.ListLemmas.{sum_last}
 
 pub overflow_add-count : goal.overflow_add-count
 overflow_add-count c =
@@ -18,7 +19,7 @@ overflow_add-count c =
       arith,
       c.loop-page.invariant,
       c.pairs_left_on-count.ensures,
-      range_more (λ (p : ℕ). length (pairs_left_on (file_in c.args.apart.now) (found c.args.apart.now) p)) c.loop-page.page,
+      sum_last (λ (p : ℕ). length (pairs_left_on (file_in c.args.apart.now) (found c.args.apart.now) p)) c.loop-page.page,
       joined_sum (pairs_left_on (file_in c.args.apart.now) (found c.args.apart.now)) (range_with_len 0 (c.loop-page.page + 1)),
       left_few c.args.apart.now (c.loop-page.page + 1) bounded.legal bounded.small few,
     )
@@ -30,7 +31,7 @@ loop-page-preserved c =
       arith,
       c.loop-page.invariant,
       c.pairs_left_on-count.ensures,
-      range_more (λ (p : ℕ). length (pairs_left_on (file_in c.args.apart.now) (found c.args.apart.now) p)) c.loop-page.page,
+      sum_last (λ (p : ℕ). length (pairs_left_on (file_in c.args.apart.now) (found c.args.apart.now) p)) c.loop-page.page,
     )
 
 pub returns : goal.returns

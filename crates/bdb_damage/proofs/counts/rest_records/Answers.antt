@@ -2,9 +2,9 @@ use Rattle.std.proofs.Common.{◌≡◌, ℕ, arith, length}
 use Rattle.bdb_apart.specs.of_rescue.Kept.{file_in}
 use Rattle.bdb_apart.specs.Found.{found}
 use Rattle.bdb_apart.specs.Given.{records_left_on}
-use Rattle.bdb_damage.proofs.StepLemmas.{range_more}
 use Rattle.bdb_damage.proofs.TotalLemmas.{rest_records_are}
 use Rattle.bdb_damage.proofs.counts.rest_records.Goals as goal
+use Rattle.bdb_apart.proofs.of_format.ListLemmas.{sum_last}
 
 pub overflow_add-count : goal.overflow_add-count
 overflow_add-count c =
@@ -24,7 +24,7 @@ loop-page-preserved c = record {
     arith,
     c.loop-page.invariant.counted,
     c.left_on.ensures.left,
-    range_more (λ (p : ℕ). length (records_left_on (file_in c.args.apart.now) (found c.args.apart.now) p)) c.loop-page.page,
+    sum_last (λ (p : ℕ). length (records_left_on (file_in c.args.apart.now) (found c.args.apart.now) p)) c.loop-page.page,
   );
   few = omega (arith, c.loop-page.invariant.few, c.left_on.ensures.few);
 }

@@ -1,9 +1,9 @@
 use Rattle.std.proofs.Common.{◌≡◌, Bool, ℕ, arith, ap, cond}
 use Rattle.bdb_apart.specs.of_rescue.Kept.{Reading, file_in}
 use Rattle.bdb_damage.specs.Tallies.{is_zero_above}
-use Rattle.bdb_damage.proofs.StepLemmas.{range_more}
 use Rattle.bdb_damage.proofs.TotalLemmas.{zero_pages_are}
 use Rattle.bdb_damage.proofs.pages.zero_count.Goals as goal
+use Rattle.bdb_apart.proofs.of_format.ListLemmas.{sum_last}
 
 -- One page more.
 pub loop-page-preserved : goal.loop-page-preserved
@@ -14,7 +14,7 @@ loop-page-preserved c = record {
     c.one-zeros.ensures.value,
     ap {B = ℕ} (λ (b : Bool). cond b 1 0) c.is_zero_above.ensures,
     ap {B = ℕ} (λ (r : Reading). cond (is_zero_above r c.loop-page.page) 1 0) c.salvaged-salvaged.ensures,
-    range_more (λ p. cond (is_zero_above c.args.apart.now p) 1 0) c.loop-page.page,
+    sum_last (λ p. cond (is_zero_above c.args.apart.now p) 1 0) c.loop-page.page,
   );
   few = omega (arith, c.loop-page.invariant.few, c.one-zeros.ensures.few);
 }

@@ -5,5 +5,5 @@ use Rattle.bdb_recno.proofs.contents.note_contents.Goals as goal
 pub returns : goal.returns
 returns g c =
     all_noted (g.F.FaultSink.has_noted c.args.found.now) (g.F.FaultSink.has_noted c.note_counts.new.found)
-    (g.F.FaultSink.has_noted c.note_fixed.new.found) c.args.linked.now c.args.meta.now c.pages_of-forest.ensures.forest c.requires.meta c.requires.recno
-    (rw c.pages_of-forest.ensures.pages at c.in_ok-note_counts.ensures.noted) (rw c.pages_of-forest.ensures.pages at c.in_ok-note_fixed.ensures)
+    (g.F.FaultSink.has_noted c.note_lengths.new.found) c.args.linked.now c.args.meta.now c.pages_of-forest.ensures.forest c.requires.meta c.requires.recno
+    (rw c.pages_of-forest.ensures.pages at c.in_ok-note_counts.ensures.noted) (rw c.pages_of-forest.ensures.pages at c.in_ok-note_lengths.ensures)

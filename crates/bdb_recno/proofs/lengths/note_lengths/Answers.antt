@@ -1,9 +1,10 @@
 use Rattle.std.proofs.Common.{◌∙◌, [], ◌∷◌, ◌++◌, List, ℕ, ap, append-nil, append_assoc, subst, sym}
 use Rattle.bdb_faults.specs.Notes.{NotesAll}
 use Rattle.bdb_faults.proofs.SinkLemmas.{notes_none}
-use Rattle.bdb_tree.specs.of_format.Terms.{file_of, has_wrong_record}
+use Rattle.bdb_tree.specs.of_format.Terms.{file_of, has_wrong_record, is_fixed, leaves}
 use Rattle.bdb_recno.specs.Noted.{length_faults}
 use Rattle.bdb_tree.specs.of_format.declared.rows.ContentsRow.TheVariants.{RecordLength}
+use Rattle.bdb_recno.proofs.ContentsLemmas.{lengths_noted}
 use Rattle.bdb_recno.proofs.NotedLemmas.{page_noted}
 use Rattle.bdb_recno.proofs.PageLemmas.{turned_leaf}
 use Rattle.bdb_recno.proofs.lengths.note_lengths.Goals as goal
@@ -30,7 +31,10 @@ loop-leaf-preserved g c = (
 
 pub returns : goal.returns
 returns g c =
-    subst (λ (pages : List ℕ). NotesAll (g.F.FaultSink.has_noted c.args.found.now) (g.F.FaultSink.has_noted c.loop-leaf.found)
+    lengths_noted (g.F.FaultSink.has_noted c.args.found.now) (g.F.FaultSink.has_noted c.loop-leaf.found) (is_fixed c.args.meta.now)
+    (length_faults (file_of c.args.forest.now) c.args.meta.now (leaves (file_of c.args.forest.now) c.args.meta.now.root))
+    (sym c.is_fixed.ensures ∙ c.if-not-is_fixed.false)
+    (subst (λ (pages : List ℕ). NotesAll (g.F.FaultSink.has_noted c.args.found.now) (g.F.FaultSink.has_noted c.loop-leaf.found)
     (length_faults (file_of c.args.forest.now) c.args.meta.now pages))
     (sym (append-nil c.loop-leaf.invariant.0) ∙ (ap (λ left. c.loop-leaf.invariant.0 ++ left) (sym c.in-None.ensures.steps.0) ∙ c.loop-leaf.invariant.1))
-    c.loop-leaf.invariant.2
+    c.loop-leaf.invariant.2)

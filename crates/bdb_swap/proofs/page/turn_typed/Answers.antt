@@ -13,11 +13,11 @@ returns-in-HashMeta c =
 pub returns-in-BtreeMeta : goal.returns-in-BtreeMeta
 unfolding fields_of
 returns-in-BtreeMeta c =
-    subst (λ t. Turns c.args.source.now (fields_of (page_as c.args.order c.args.source.now t)) c.args.page.now c.turn_btree_meta.new.page)
-    (sym c.in-BtreeMeta.is) c.turn_btree_meta.ensures
+    subst (λ t. Turns c.args.source.now (fields_of (page_as c.args.order c.args.source.now t)) c.args.page.now c.turn_meta.new.page)
+    (sym c.in-BtreeMeta.is) c.turn_meta.ensures
 
 pub returns-in-QueueMeta : goal.returns-in-QueueMeta
 unfolding fields_of
 returns-in-QueueMeta c =
-    subst (λ t. Turns c.args.source.now (fields_of (page_as c.args.order c.args.source.now t)) c.args.page.now c.turn_queue_meta.new.page)
-    (sym c.in-QueueMeta.is) c.turn_queue_meta.ensures
+    subst (λ t. Turns c.args.source.now (fields_of (page_as c.args.order c.args.source.now t)) c.args.page.now c.turn_meta-in-QueueMeta.new.page)
+    (sym c.in-QueueMeta.is) c.turn_meta-in-QueueMeta.ensures

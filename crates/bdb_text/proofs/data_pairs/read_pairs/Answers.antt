@@ -1,6 +1,5 @@
-use Rattle.std.proofs.Common.{rules, List, ℕ, ◌+◌, true, false, length, length-append, sym, ap, ◌∙◌, ◌≡◌, arith, Err, is_ok}
+use Rattle.std.proofs.Common.{rules, ◌+◌, true, false, length, length-append, sym, ap, ◌∙◌, ◌≡◌, arith, Err, is_ok}
 use Rattle.std.proofs.lemmas.Bool.{eqb-true}
-use Rattle.std.specs.Str.{bytes_eq}
 use Rattle.bdb_spelling.specs.of_text_format.Terms.{is_data_end, placed_pairs, text_lines}
 use Rattle.bdb_text.specs.Fields.{values_in}
 use Rattle.bdb_text.proofs.PlacingLemmas.{pair_fault, pairs_ended, pairs_step, places_step}
@@ -9,7 +8,7 @@ use Rattle.bdb_text.proofs.data_pairs.read_pairs.Goals as goal
 pub returns-in_err-read-clause-err : goal.returns-in_err-read-clause-err
 returns-in_err-read-clause-err c =
     let line = c.cut_line-cut.result.line.now in
-    let other : is_data_end line ≡ false = ap (λ (s : List ℕ). bytes_eq line s) (sym c.as_slice.ensures) ∙ sym c.if-eq.ensures in
+    let other : is_data_end line ≡ false = sym c.is_data_end.ensures ∙ c.if-is_data_end.false in
     let to = rw c.cut_line-cut.ensures.lines at c.loop-rest.invariant.to in
     let error = c.in_err-read.field-0.0 in
     let is : c.from_residual.result ≡ Err error = search rules in
@@ -21,7 +20,7 @@ returns-in_err-read-clause-err c =
 pub loop-rest-preserved : goal.loop-rest-preserved
 loop-rest-preserved c =
     let line = c.cut_line-cut.result.line.now in
-    let other : is_data_end line ≡ false = ap (λ (s : List ℕ). bytes_eq line s) (sym c.as_slice.ensures) ∙ sym c.if-eq.ensures in
+    let other : is_data_end line ≡ false = sym c.is_data_end.ensures ∙ c.if-is_data_end.false in
     let to = rw c.cut_line-cut.ensures.lines at c.loop-rest.invariant.to in
     let count : c.len.result ≡ length c.loop-rest.places.items = search rules in
     let read = rw count at c.in_ok-read.ensures.ok in
@@ -40,5 +39,6 @@ loop-rest-preserved c =
 
 pub returns-clause-err : goal.returns-clause-err
 returns-clause-err c =
-    pairs_ended (values_in c.args.fields.now) c.args.text.now c.args.start (placed_pairs c.loop-rest.bytes.items c.loop-rest.places.items) c.loop-rest.rest.now
-    c.loop-rest.number c.loop-rest.invariant.to (eqb-true _ _ (sym c.loop-rest-test.ensures))
+    rw c.fault_at.ensures
+    (pairs_ended (values_in c.args.fields.now) c.args.text.now c.args.start (placed_pairs c.loop-rest.bytes.items c.loop-rest.places.items)
+    c.loop-rest.rest.now c.loop-rest.number c.loop-rest.invariant.to (eqb-true _ _ (sym c.loop-rest-test.ensures)))

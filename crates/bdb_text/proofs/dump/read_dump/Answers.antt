@@ -4,7 +4,7 @@ use Rattle.bdb_text.proofs.SectionLemmas.{empty_fault, text_begun, text_ended, t
 use Rattle.bdb_text.proofs.dump.read_dump.Goals as goal
 
 pub returns-then-is_empty-clause-err : goal.returns-then-is_empty-clause-err
-returns-then-is_empty-clause-err c = empty_fault c.args.text.now (eqb-true _ _ (sym c.if-is_empty.ensures))
+returns-then-is_empty-clause-err c = rw c.fault_at.ensures (empty_fault c.args.text.now (eqb-true _ _ (sym c.if-is_empty.ensures)))
 
 pub loop-rest-init : goal.loop-rest-init
 loop-rest-init c = record {
@@ -14,7 +14,7 @@ loop-rest-init c = record {
 
 pub loop-rest-preserved : goal.loop-rest-preserved
 loop-rest-preserved c = record {
-  to = rw c.in_ok-earlier.ensures
+  to = rw c.in-Ok.ensures
       (text_more c.args.text.now c.loop-rest.earlier c.loop-rest.rest.now c.loop-rest.number c.in_ok-read.read c.loop-rest.invariant.to
       c.in_ok-read.ensures.ok);
   room = omega (arith, c.loop-rest.invariant.room, c.in_ok-read.ensures.within);

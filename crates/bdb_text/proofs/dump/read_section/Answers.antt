@@ -8,8 +8,9 @@ use Rattle.bdb_text.proofs.dump.read_section.Goals as goal
 
 pub returns-in-Some-clause-err : goal.returns-in-Some-clause-err
 returns-in-Some-clause-err c =
-    first_fault (names_of c.args.earlier.now) c.args.text.now c.cut_line-first.result.line.now _ c.args.start c.in-Some.reason c.cut_line-first.ensures.lines
-    c.in-Some.ensures
+    rw c.fault_at.ensures
+    (first_fault (names_of c.args.earlier.now) c.args.text.now c.cut_line-first.result.line.now _ c.args.start c.in-Some.reason c.cut_line-first.ensures.lines
+    c.in-Some.ensures)
 
 pub returns-in_err-header-clause-err : goal.returns-in_err-header-clause-err
 returns-in_err-header-clause-err c =
@@ -27,10 +28,11 @@ pub returns-in-Some-end_reason-clause-err : goal.returns-in-Some-end_reason-clau
 returns-in-Some-end_reason-clause-err c =
     let named = rw c.deref.ensures.value at c.in_ok-name.ensures.ok in
     let reason = rw c.deref-2.ensures.value at c.in-Some-end_reason.ensures in
-    end_fault_is (names_of c.args.earlier.now) c.args.text.now c.cut_line-first.result.line.now c.cut_line-first.result.rest.now c.args.start
+    rw c.fault_at-in-Some-end_reason.ensures
+    (end_fault_is (names_of c.args.earlier.now) c.args.text.now c.cut_line-first.result.line.now c.cut_line-first.result.rest.now c.args.start
     c.in_ok-header.header
     c.in_ok-name.name
-    c.in-Some-end_reason.reason c.cut_line-first.ensures.lines c.in_default.ensures c.in_ok-header.ensures.ok named reason
+    c.in-Some-end_reason.reason c.cut_line-first.ensures.lines c.in_default.ensures c.in_ok-header.ensures.ok named reason)
 
 pub returns-in_err-data-clause-err : goal.returns-in_err-data-clause-err
 returns-in_err-data-clause-err c =

@@ -1,5 +1,4 @@
-use Rattle.std.proofs.Common.{◌∙◌, inl}
 use Rattle.bdb_tool.proofs.program.stopped.Goals as goal
 
-pub returns-in-Ok : goal.returns-in-Ok
-returns-in-Ok g c = let written = c.as_bytes.ensures.value ∙ c.in-Ok.ensures in rw c.in-TooLarge.is (inl (rw written at c.tell.ensures))
+pub returns-in-TooLarge : goal.returns-in-TooLarge
+returns-in-TooLarge g c = rw c.in-TooLarge.is c.tell_too_long.ensures

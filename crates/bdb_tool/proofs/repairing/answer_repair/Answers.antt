@@ -1,11 +1,13 @@
-use Rattle.bdb_tool_words.specs.declared.command.Built.TheVariants.{Each, Shaped}
-use Rattle.bdb_tool.proofs.RepairLemmas.{asked_ends}
+use Rattle.std.proofs.Common.{◌∙◌, sym}
+use Rattle.bdb_tool.proofs.RepairLemmas.{repaired_ends, unrepaired_ends}
 use Rattle.bdb_tool.proofs.repairing.answer_repair.Goals as goal
 
-pub returns-in-Each : goal.returns-in-Each
-returns-in-Each g c =
-    asked_ends c.args.limit Each c.args.asked.built c.args.asked.guess c.args.image.now _ _ _ c.in-Each.is c.repair_each.ensures
+pub returns-in-Some : goal.returns-in-Some
+returns-in-Some g c =
+    unrepaired_ends c.args.limit c.in-Some.refusal c.args.asked.built c.args.asked.guess c.args.image.now _ _ _ _
+    (sym c.refusal_of.ensures ∙ c.in-Some.is) c.tell_refusal.ensures
 
-pub returns-in-Shaped : goal.returns-in-Shaped
-returns-in-Shaped g c =
-    asked_ends c.args.limit (Shaped c.in-Shaped.shape) c.args.asked.built c.args.asked.guess c.args.image.now _ _ _ c.in-Shaped.is c.repair_one.ensures
+pub returns : goal.returns
+returns g c =
+    repaired_ends c.args.limit c.args.asked.built c.args.asked.guess c.args.image.now c.built_of-built.result _ _ _
+    (sym c.refusal_of.ensures ∙ c.in_default.is) c.built_of-built.ensures.built c.built_of-built.ensures.tables c.answer_built.ensures
