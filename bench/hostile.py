@@ -94,6 +94,12 @@ KEPT_ONCE = tuple(Run(("repair", "--as", kind, "--max-bytes", "1000000"), 0) for
 ONTO = (Run(("load",), 0, onto=NO_PAIRS),)
 # What is salvaged has no room within the limit that there is without a word.
 MEGABYTES = tuple(Run(("repair", *words), 6) for words in ((), ("--as", "btree"), ("--as", "hash"), ("--apart",)))
+# Of many databases a text replaces none of the data, or all of them.
+OF_DATABASE = "VERSION=3\nformat=bytevalue\ndatabase={}\ntype=btree\nHEADER=END\n{}DATA=END\n"
+OTHER_DATABASE = OF_DATABASE.format("other", "").encode()
+ALL_REPLACED, ALL_FULL_REPLACED = ("".join(OF_DATABASE.format(f"{at:08x}", " 6b6579\n 61\n") for at in range(count)).encode() for count in (2_000, 8_000))
+ONTO_DATABASES = (Run(("load", "--max-bytes", "4000000"), 6, onto=OTHER_DATABASE), Run(("load", "--max-bytes", "4000000"), 0, onto=ALL_REPLACED))
+ONTO_FULL_DATABASES = (Run(("load", "--max-bytes", "10000000"), 6, onto=OTHER_DATABASE), Run(("load",), 0, onto=ALL_FULL_REPLACED))
 # The base itself is within the limit.
 ONTO_MEGABYTES, ONTO_TABLE_MEGABYTES = (
     (
@@ -145,6 +151,8 @@ CLASSES = (
     Class("chain-megabyte", "a million pairs name one chain of a megabyte", files.megabyte_chain_btree, 1_000_000, "bytes", MEGABYTES),
     Class("chain-megabyte-base", "data of a sound base are one chain of a megabyte", files.megabyte_chain_btree, 5_000, "bytes", ONTO_MEGABYTES),
     Class("chain-megabyte-hash", "data of a sound hash are one chain of a megabyte", files.megabyte_chain_hash, 5_000, "bytes", ONTO_TABLE_MEGABYTES),
+    Class("chain-megabyte-databases", "data of the databases of a sound base are one chain of a megabyte", files.megabyte_chain_databases, 2_000, "bytes", ONTO_DATABASES),
+    Class("chain-full-databases", "data of the databases of a sound base share a chain", files.full_chain_databases, 8_000, "bytes", ONTO_FULL_DATABASES),
     # Chains of full pages that aren't written: those of the outputs would be too long to write.
     Class("chain-full-order", "sorted data, two chains that begin alike under each key", files.full_chains_order, 16_000, "", JUDGED + (get("x", status=9),)),
     Class("chain-full-grid", "sorted data, each two of many such chains under a key", files.full_chains_grid, 32_000, "", JUDGED + (get("x", status=9),)),

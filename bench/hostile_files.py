@@ -502,6 +502,20 @@ def full_chain_hashes(count):
     return image.master(named(map(key_of, range(count)), numbers))
 
 
+def databases_of_datum(data):
+    """A maker of btrees under a master, each of which has one pair, whose datum is the chain."""
+
+    def make(count):
+        image = Image()
+        datum = long_item(image.chain(data(count), counted(count)))
+        return image.master(named(map(key_of, range(count)), databases(image, count, datum)))
+
+    return make
+
+
+megabyte_chain_databases, full_chain_databases = map(databases_of_datum, (megabyte, full))
+
+
 def chain_name_data(count):
     image = Image()
     image.add(btree_metadata(1, 2))
@@ -538,11 +552,11 @@ chain_separator = below_separator(lambda count: blank(count, b"mm"))
 chain_gap = below_separator(lambda count: [b"m", *blank(count - 1, b"m")])
 
 
-def databases(image, count):
+def databases(image, count, datum=inline(b"data")):
     """Adds so many btrees of a pair each. Gives the numbers of their metadata."""
     for _ in range(count):
         image.add(btree_metadata(image.next, image.next + 1, MASTER))
-        image.put(LEAF, [inline(b"key"), inline(b"data")], level=1)
+        image.put(LEAF, [inline(b"key"), datum], level=1)
     return range(image.next - 2 * count, image.next, 2)
 
 

@@ -9,6 +9,7 @@ mod record_counts;
 mod refused;
 mod renumbered;
 mod rows;
+mod unjudged;
 
 pub use bdb_apart::{
     Apart, Database, Databases, Datum, Guess, Kind, Order, Pairs, PairsLeft, Records, RecordsLeft,

@@ -4,12 +4,11 @@ ghost use Rattle.bdb_apart.specs.of_format.Terms.{File, page_at};
 ghost use Rattle.bdb_apart.specs.of_layout.Seen.{content_seen};
 ghost use Rattle.bdb_apart.specs.of_rescue.Kept.{IsKeptPair, data_here, file_in, given, given_live};
 ghost use Rattle.bdb_apart.specs.of_survey.Salvage.{paired_items, stored_on};
-ghost use Rattle.bdb_apart.specs.of_survey.Slots.{slots_seen};
 ghost use Rattle.bdb_damage.specs.Counts.{lost_pairs_on};
 ghost use Rattle.bdb_damage.specs.Tallies.{is_kept_live, live_pairs_in, set_size};
 
 use crate::one::one;
-use bdb_apart::{Content, DataPlace, DupBlocks, KeptPair, Salvaged, Slots, paired_slots};
+use bdb_apart::{Content, DataPlace, DupBlocks, KeptPair, Salvaged, paired_slots};
 
 /// How many blocks a set on a page has.
 fn block_count(blocks: DupBlocks<'_>) -> u64
@@ -86,25 +85,18 @@ pub(crate) fn pairs_on(salvaged: &Salvaged<'_>, page: u32) -> u64
     count_among(salvaged, salvaged.pairs_at(page))
 }
 
-/// How many pairs among items are live.
-fn live_among(slots: &Slots<'_>) -> u32
-    ensures { result ≡ live_pairs_in (slots_seen slots.now) }
+/// How many pairs of a page are live.
+fn live_on(salvaged: &Salvaged<'_>, page: u32) -> u32
+    ensures { result ≡ live_pairs_in (paired_items (page_at (file_in salvaged.now) page)) }
 {
+    let Some(slots) = paired_slots(salvaged.pages().page(page)) else {
+        return 0;
+    };
     let mut count = 0;
     for index in 0..slots.count() / 2 {
         count += one(!slots.is_deleted(2 * index + 1));
     }
     count
-}
-
-/// How many pairs of a page are live.
-fn live_on(salvaged: &Salvaged<'_>, page: u32) -> u32
-    ensures { result ≡ live_pairs_in (paired_items (page_at (file_in salvaged.now) page)) }
-{
-    match paired_slots(salvaged.pages().page(page)) {
-        Some(slots) => live_among(&slots),
-        None => 0,
-    }
 }
 
 /// How many kept pairs are live.

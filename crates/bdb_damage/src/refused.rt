@@ -3,17 +3,16 @@ ghost use Rattle.std.specs.Iterator.{YieldsFirstBy, item_count};
 ghost use Rattle.bdb_apart.specs.of_format.Terms.{fault_seen, form_row_code};
 ghost use Rattle.bdb_damage.specs.Pages.{refused_pages};
 
-use crate::rows::{is_queue_file, row_at};
-use bdb_apart::{Apart, Salvaged};
+use crate::rows::row_at;
+use crate::unjudged::Unjudged;
+use bdb_apart::Apart;
 use bdb_format::{FormRow, Named, Row};
 use std::marker::Model;
 
 /// The refused pages that are left.
 #[derive(Drop)]
 pub struct RefusedPages<'s, 'a> {
-    salvaged: &'s Salvaged<'a>,
-    queue: bool,
-    page: u32,
+    pages: Unjudged<'s, 'a>,
 }
 
 impl<'s, 'a> Model for RefusedPages<'s, 'a> {
@@ -24,9 +23,9 @@ impl<'s, 'a> Model for RefusedPages<'s, 'a> {
 
     ghost Value = { List Fault };
 
-    ghost view = { λ v. refused_from v.salvaged.now v.page };
+    ghost view = { λ v. refused_from v.pages.salvaged.now v.pages.page };
 
-    ghost invariant = { λ v. v.queue ≡ is_queue_file v.salvaged.now };
+    ghost invariant = { λ v. v.pages.queue ≡ is_queue_file v.pages.salvaged.now };
 }
 
 /// The pages on which a row of stage 2 holds, in order, each with the first such row. A page is judged as if it stood at the number that it carries,
@@ -34,11 +33,8 @@ impl<'s, 'a> Model for RefusedPages<'s, 'a> {
 pub fn refused_pages<'s, 'a>(apart: &Apart<'s, 'a>) -> RefusedPages<'s, 'a>
     ensures { result ≡ refused_pages apart.now }
 {
-    let salvaged = apart.salvaged();
     RefusedPages {
-        salvaged,
-        queue: is_queue_file(salvaged),
-        page: 0,
+        pages: Unjudged::of(apart.salvaged()),
     }
 }
 
@@ -59,12 +55,8 @@ impl<'s, 'a> Iterator for RefusedPages<'s, 'a> {
     #[tactic(auto, using(crate::proofs::WalkLemmas::refused_none, crate::proofs::WalkLemmas::refused_some, crate::proofs::WalkLemmas::refused_end))]
     fn next(&mut self) -> Option<Named> {
         'walk: loop {
-            let page = self.page;
-            if page >= self.salvaged.pages().count() {
-                return None;
-            }
-            self.page += 1;
-            match row_at(self.salvaged, self.queue, page) {
+            let page = self.pages.next_page()?;
+            match row_at(self.pages.salvaged, self.pages.queue, page) {
                 Some(row) => return Some(form_at(row, page)),
                 None => {}
             }

@@ -5,16 +5,15 @@ ghost use Rattle.bdb_apart.specs.Queues.{bytes_at};
 ghost use Rattle.bdb_damage.specs.Pages.{is_queue_file, is_renumbered, number_on, renumbered_pages};
 
 use crate::pages::is_zero_at;
-use crate::rows::{is_queue_file, row_at};
+use crate::rows::row_at;
+use crate::unjudged::Unjudged;
 use bdb_apart::{Apart, Salvaged, u32_at};
 use std::marker::Model;
 
 /// The pages with another number that are left.
 #[derive(Drop)]
 pub struct RenumberedPages<'s, 'a> {
-    salvaged: &'s Salvaged<'a>,
-    queue: bool,
-    page: u32,
+    pages: Unjudged<'s, 'a>,
 }
 
 impl<'s, 'a> Model for RenumberedPages<'s, 'a> {
@@ -24,9 +23,9 @@ impl<'s, 'a> Model for RenumberedPages<'s, 'a> {
 
     ghost Value = { List (ℕ × ℕ) };
 
-    ghost view = { λ v. renumbered_from v.salvaged.now v.page };
+    ghost view = { λ v. renumbered_from v.pages.salvaged.now v.pages.page };
 
-    ghost invariant = { λ v. v.queue ≡ is_queue_file v.salvaged.now };
+    ghost invariant = { λ v. v.pages.queue ≡ is_queue_file v.pages.salvaged.now };
 }
 
 /// The number that a page carries.
@@ -56,11 +55,8 @@ fn is_renumbered(salvaged: &Salvaged<'_>, queue: bool, page: u32) -> bool
 pub fn renumbered_pages<'s, 'a>(apart: &Apart<'s, 'a>) -> RenumberedPages<'s, 'a>
     ensures { result ≡ renumbered_pages apart.now }
 {
-    let salvaged = apart.salvaged();
     RenumberedPages {
-        salvaged,
-        queue: is_queue_file(salvaged),
-        page: 0,
+        pages: Unjudged::of(apart.salvaged()),
     }
 }
 
@@ -74,13 +70,9 @@ impl<'s, 'a> Iterator for RenumberedPages<'s, 'a> {
     #[tactic(auto, using(crate::proofs::WalkLemmas::renumbered_none, crate::proofs::WalkLemmas::renumbered_some, crate::proofs::WalkLemmas::renumbered_end))]
     fn next(&mut self) -> Option<(u32, u32)> {
         'walk: loop {
-            let page = self.page;
-            if page >= self.salvaged.pages().count() {
-                return None;
-            }
-            self.page += 1;
-            if is_renumbered(self.salvaged, self.queue, page) {
-                return Some((page, number_on(self.salvaged, page)));
+            let page = self.pages.next_page()?;
+            if is_renumbered(self.pages.salvaged, self.pages.queue, page) {
+                return Some((page, number_on(self.pages.salvaged, page)));
             }
         }
     }

@@ -1,5 +1,5 @@
 -- What a view keeps of its page, and what callers see of the views that are no list of items.
-use Rattle.std.specs.Prelude.{◌≡◌, ◌≤◌, ◌+◌, ℕ, List, length, Option, Some, None, Result, Ok, Err}
+use Rattle.std.specs.Prelude.{◌≡◌, ◌≤◌, ◌+◌, ℕ, List, length, take, drop, Option, Some, None, Result, Ok, Err}
 use Rattle.bdb_layout.specs.of_format.declared.kinds.Order.{Order}
 use Rattle.bdb_layout.specs.of_format.declared.pages.Header.{Header}
 use Rattle.bdb_layout.specs.of_format.Terms.{BtreeFields, HashFields, Metadata, QueueFields, btree_fields, hash_fields, listed_code, queue_fields, two_at}
@@ -22,6 +22,10 @@ pub record HoldsData (order : Order) (page : List ℕ) : Type 0 where
   pub size : length page ≤ 32768
   pub header : 26 ≤ length page
   pub room : 26 + two_at order page 22 ≤ length page
+
+-- the data on an overflow page
+abbrev pub overflow_data : Order → List ℕ → List ℕ
+overflow_data order page = take (two_at order page 22) (drop 26 page)
 
 -- an overflow page: its header and its data
 pub record OverflowPage : Type 0 where

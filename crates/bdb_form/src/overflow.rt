@@ -1,6 +1,6 @@
-ghost use Rattle.std.specs.Prelude.{◌≡◌, ◌≤◌, length, take, drop};
-ghost use Rattle.bdb_form.specs.Formed.{HoldsData, unless};
-ghost use Rattle.bdb_layout.specs.of_format.Terms.{body_code, header_of, two_at};
+ghost use Rattle.std.specs.Prelude.{◌≡◌, ◌≤◌, length};
+ghost use Rattle.bdb_form.specs.Formed.{HoldsData, overflow_data, unless};
+ghost use Rattle.bdb_layout.specs.of_format.Terms.{body_code, header_of};
 ghost use Rattle.bdb_layout.specs.of_format.declared.pages.PageType.TheVariants.{Overflow as OverflowPage};
 
 use bdb_layout::{Header, PageBytes};
@@ -13,17 +13,12 @@ pub struct OverflowView<'a> {
 }
 
 impl<'a> Model for OverflowView<'a> {
-    ghost use Rattle.std.specs.Prelude.{take, drop};
-    ghost use Rattle.bdb_form.specs.Formed.{HoldsData, OverflowPage};
-    ghost use Rattle.bdb_layout.specs.of_format.Terms.{header_of, two_at};
+    ghost use Rattle.bdb_form.specs.Formed.{HoldsData, OverflowPage, overflow_data};
+    ghost use Rattle.bdb_layout.specs.of_format.Terms.{header_of};
 
     ghost Value = { OverflowPage };
 
-    ghost view = { λ v. record {
-      header = header_of v.page.order v.page.bytes.now;
-      bytes = take (two_at v.page.order v.page.bytes.now 22)
-          (drop 26 v.page.bytes.now);
-    } };
+    ghost view = { λ v. record { header = header_of v.page.order v.page.bytes.now; bytes = overflow_data v.page.order v.page.bytes.now } };
 
     ghost invariant = { λ v. HoldsData v.page.order v.page.bytes.now };
 }
@@ -32,11 +27,7 @@ impl<'a> OverflowView<'a> {
     // The view of a page of this type whose data lie on it.
     pub(crate) fn over(page: PageBytes<'a>) -> OverflowView<'a>
         requires { HoldsData page.order page.bytes.now }
-        ensures { result ≡ record {
-          header = header_of page.entry.order page.entry.bytes.now;
-          bytes = take (two_at page.entry.order page.entry.bytes.now 22)
-              (drop 26 page.entry.bytes.now);
-        } }
+        ensures { result ≡ record { header = header_of page.entry.order page.entry.bytes.now; bytes = overflow_data page.entry.order page.entry.bytes.now } }
     {
         OverflowView { page }
     }

@@ -284,3 +284,15 @@ too_long max most sections low fit none long = by_test (nat_lt max (image_size s
     by_test false is =
         let within : image_size sections ≤ max = grind (arith, nat_tests) in
         absurd (true≢false (sym (all_pass sections (few_short most sections fit none (omega (arith, within, low)))) ∙ long))
+
+-- The pages of sections aren't more than are needed.
+
+pub sections_needed : (first : Section) (rest : List Section) → sum_by (section_pages first.settings.page_size) (first ∷ rest) ≤ need_of (first ∷ rest)
+sections_needed first rest = by_test (is_some first.name)
+  where
+    pages : ℕ
+    pages = sum_by (section_pages first.settings.page_size) (first ∷ rest)
+
+    by_test : (b : Bool) → pages ≤ cond b (1 + master_pages first.settings.page_size (first ∷ rest)) 0 + pages
+    by_test true = omega arith
+    by_test false = omega arith

@@ -99,7 +99,7 @@ are_one base (section ∷ rest) loadable no_master =
 
 -- Errors of one section.
 
-no_section_errors : (size : ℕ) (alone : Bool) (section : Section) → is_too_wide size section.settings ≡ false → is_among_names alone section ≡ false
+pub no_section_errors : (size : ℕ) (alone : Bool) (section : Section) → is_too_wide size section.settings ≡ false → is_among_names alone section ≡ false
     → flat_map (pair_errors section.settings) section.pairs ≡ [] → section_errors size alone section ≡ []
 no_section_errors size alone section wide among pairs =
     ap (λ b. (where_so b (RecordTooLong section.header_line) ++ where_so (is_among_names alone section) (QueueAmongNames section.header_line))
@@ -114,7 +114,7 @@ from_errors base settings (Some partner) of =
     ap (λ s. flat_map (pair_errors s) partner.pairs) (in_base_already base partner (of partner refl))
     ∙ none_of_pairs partner.settings partner.pairs (no_own_errors base partner (of partner refl)).each
 
-joined_pairs : (base : Base) (section : Section) → IsBase base → flat_map (pair_errors (settings_onto base section)) section.pairs ≡ []
+pub joined_pairs : (base : Base) (section : Section) → IsBase base → flat_map (pair_errors (settings_onto base section)) section.pairs ≡ []
     → flat_map (pair_errors (settings_onto base section)) (pairs_from (partner_of base section) ++ section.pairs) ≡ []
 joined_pairs base section is none =
     let errors : TextPair → List LoadError = pair_errors (settings_onto base section) in

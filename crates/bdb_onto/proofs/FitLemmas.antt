@@ -24,6 +24,7 @@ use Rattle.bdb_onto.specs.Bases.{IsBase, base_section}
 use Rattle.bdb_onto.specs.Laws.{AreLoadableOnto, JoinedAreLoadable}
 use Rattle.bdb_onto.specs.Onto.{HasNoErrorsOnto, differ, in_base, is_left, is_other, is_partner, is_unlike, joined, joined_section, pairs_from, partner_of}
 use Rattle.bdb_onto.specs.Onto.{same_kind, settings_from}
+use Rattle.bdb_onto.specs.Search.{Differs}
 use Rattle.bdb_onto.proofs.BaseLemmas.{of_base}
 use Rattle.bdb_onto.proofs.ErrorLemmas.{AreOne, are_one, named_in_base, same_of}
 use Rattle.bdb_onto.proofs.FieldsLemmas.{AreFitBase, base_fits}
@@ -67,9 +68,6 @@ not_missing false none any is are = or_from none any is are
 pub record IsNew (names : List (Option (List ℕ))) (section : Section) : Type 0 where
   pub has : is_some section.name ≡ true
   pub other : list_any (is_name section.name) names ≡ false
-
-abbrev pub Differs : Section → Section → Type 0
-Differs a b = is_name b.name a.name ≡ false
 
 behind : (names : List (Option (List ℕ))) (left : List Section) → list_any is_none names ≡ false
     → ((section : Section) → Contains left section → IsNew names section) → AllLater Differs left → AreNamedBehind names left

@@ -22,11 +22,9 @@ use Rattle.bdb_mkfile.specs.of_settle.declared.load_error.LoadError.{LoadError}
 use Rattle.bdb_law_kept.specs.Later.{AllLater}
 use Rattle.bdb_onto.specs.declared.base.Base.{Base}
 use Rattle.bdb_onto.specs.declared.joining.Placed.{Placed}
-use Rattle.bdb_onto.specs.Bases.{IsBase}
 use Rattle.bdb_onto.specs.Joining.{IsJoinedTo, IsPlaced, behind, emptied, place_placed, placed_section, still, taken_at}
 use Rattle.bdb_onto.specs.Onto.{is_left, is_partner, joined, joined_section, onto_errors, partner_of}
-use Rattle.bdb_onto.specs.Search.{IsPartnerAt, IsPlaceOf, IsWithin}
-use Rattle.bdb_onto.proofs.FitLemmas.{Differs, base_differs}
+use Rattle.bdb_onto.specs.Search.{Differs, HasNames, IsPartnerAt, IsPlaceOf, IsWithin}
 use Rattle.bdb_onto.proofs.JoinLemmas.{found_in}
 
 -- Sections that have names of their own have partners of their own.
@@ -136,7 +134,7 @@ not_partner section partner database is other = by_names section.name partner.na
         false_from_ne_true (bytes_eq a c) (λ same.
         true≢false (sym (eq_self b) ∙ ap (λ (n : List ℕ). bytes_eq n b) (sym (eq_same a b is) ∙ eq_same a c same) ∙ other))
 
-own_name : (name : Option (List ℕ)) → is_name name name ≡ true
+pub own_name : (name : Option (List ℕ)) → is_name name name ≡ true
 own_name None = refl
 own_name (Some name) = eq_self name
 
@@ -175,7 +173,7 @@ taken_is before section after all i named within is = by_list all i within is (�
 
 -- One more section.
 
-module _ (base : Base) (is : IsBase base) (before : List Section) (section : Section) (after : List Section)
+module _ (base : Base) (names : HasNames base) (before : List Section) (section : Section) (after : List Section)
     (named : AreNamedBehind [] (before ++ (section ∷ after))) where
   taken_partner : (place : Option ℕ) → IsPlaceOf base.databases (partner_of base section) place
       → taken_at (map (still before) base.databases) place ≡ partner_of base section
@@ -185,23 +183,23 @@ module _ (base : Base) (is : IsBase base) (before : List Section) (section : Sec
   left_places : (place : Option ℕ) → IsPlaceOf base.databases (partner_of base section) place
       → emptied (map (still before) base.databases) place ≡ map (still (before ++ (section ∷ []))) base.databases
   left_places None at = sym (all_still before section base.databases (none_found (is_partner section) base.databases (sym at.there)))
-  left_places (Some i) at = emptied_at before section base.databases i (base_differs base is) at.within at.there
+  left_places (Some i) at = emptied_at before section base.databases i names.differ at.within at.there
 
 pub one_more : (base : Base) (sections : List Section) (places : List (Option Section)) (all : List Section) (placed : Placed) (rest : List Placed)
-    → IsBase base → AreNamedBehind [] sections → IsJoinedTo base sections places all (placed ∷ rest)
+    → HasNames base → AreNamedBehind [] sections → IsJoinedTo base sections places all (placed ∷ rest)
     → IsJoinedTo base sections (emptied places placed.place) (all ++ (behind base.page_size base.order (taken_at places placed.place) placed.section ∷ [])) rest
-one_more base sections places all placed rest is named to =
+one_more base sections places all placed rest names named to =
     let section : Section = placed.section in
     let after : List Section = map placed_section rest in
     let apart : AreNamedBehind [] (to.done ++ (section ∷ after)) = subst (AreNamedBehind []) to.split named in
     let place : IsPlaceOf base.databases (partner_of base section) placed.place = All-head (IsPlaced base) placed rest to.placed in
     let taken : taken_at places placed.place ≡ partner_of base section =
-    ap (λ ps. taken_at ps placed.place) to.places_are ∙ taken_partner base is to.done section after apart placed.place place in
+    ap (λ ps. taken_at ps placed.place) to.places_are ∙ taken_partner base names to.done section after apart placed.place place in
     record {
       done = to.done ++ (section ∷ []);
       split = to.split ∙ sym (append_assoc to.done (section ∷ []) after);
       placed = All-tail (IsPlaced base) placed rest to.placed;
-      places_are = ap (λ ps. emptied ps placed.place) to.places_are ∙ left_places base is to.done section after apart placed.place place;
+      places_are = ap (λ ps. emptied ps placed.place) to.places_are ∙ left_places base names to.done section after apart placed.place place;
       joined_are =
           ap (λ ss. ss ++ (behind base.page_size base.order (taken_at places placed.place) section ∷ [])) to.joined_are
           ∙ ap (λ p. map (joined_section base) to.done ++ (behind base.page_size base.order p section ∷ [])) taken

@@ -24,9 +24,10 @@ use Rattle.bdb_mkfile.specs.Builds.{name_of}
 use Rattle.bdb_onto.specs.declared.base.Base.{Base}
 use Rattle.bdb_onto.specs.Bases.{IsBase, base_section}
 use Rattle.bdb_onto.specs.Onto.{differ, is_partner, partner_of}
-use Rattle.bdb_onto.specs.Search.{AllNamed, IsPlaceOf, NamesRise, has_name, order_of, place_in}
+use Rattle.bdb_onto.specs.Search.{AllNamed, HasNames, IsPlaceOf, NamesRise, has_name, order_of, place_in}
 use Rattle.bdb_onto.proofs.BaseLemmas.{of_base}
 use Rattle.bdb_onto.proofs.ErrorLemmas.{named_in_base, no_name}
+use Rattle.bdb_onto.proofs.FitLemmas.{base_differs}
 
 -- The order of a database and a name.
 
@@ -134,13 +135,21 @@ image_rises image sound (Some meta) is has =
     (ascends_rise (map bytes_of_name (databases (file_of image))) (in_order_of_names image meta sound is))
 
 -- under a master names ascend, and each database has one
-pub names_rise : (base : Base) → IsBase base → base.master ≡ true → NamesRise base.databases
+names_rise : (base : Base) → IsBase base → base.master ≡ true → NamesRise base.databases
 names_rise base is master =
     subst (λ (b : Base). NamesRise b.databases) (sym is.are)
     (image_rises is.image is.sound (master_in (page_at (file_of is.image) 0)) refl (sym (ap (λ (b : Base). b.master) is.are) ∙ master))
 
-pub all_named : (base : Base) → IsBase base → base.master ≡ true → AllNamed base.databases
-all_named base is master database at = named_in_base base database (of_base base database is at) ∙ master
+pub all_named : (base : Base) → HasNames base → base.master ≡ true → AllNamed base.databases
+all_named base names master database at = names.named database at ∙ master
+
+-- the names of a base
+pub has_names : (base : Base) → IsBase base → HasNames base
+has_names base is = record {
+  named = λ database at. named_in_base base database (of_base base database is at);
+  rise = names_rise base is;
+  differ = base_differs base is;
+}
 
 -- The database that a section is loaded onto.
 
@@ -157,17 +166,17 @@ unlike (Some a) None master has is = refl
 unlike (Some a) (Some b) master has is = absurd (cc (subst (λ m. differ true m ≡ true) (sym has) is))
 
 -- none, where it has a name and the base no master, or the other way round
-pub no_partner : (base : Base) (section : Section) → IsBase base → differ (is_some section.name) base.master ≡ true → partner_of base section ≡ None
-no_partner base section is misnamed =
+pub no_partner : (base : Base) (section : Section) → HasNames base → differ (is_some section.name) base.master ≡ true → partner_of base section ≡ None
+no_partner base section names misnamed =
     none_passes_find (is_partner section) base.databases (λ database at.
-    unlike section.name database.name base.master (named_in_base base database (of_base base database is at)) misnamed)
+    unlike section.name database.name base.master (names.named database at) misnamed)
 
 -- the first one, where neither has names
-pub first_partner : (base : Base) (section : Section) → IsBase base → base.master ≡ false → section.name ≡ None
+pub first_partner : (base : Base) (section : Section) → HasNames base → base.master ≡ false → section.name ≡ None
     → partner_of base section ≡ slice_get base.databases 0
-first_partner base section is no_master unnamed =
+first_partner base section names no_master unnamed =
     ap (λ name. find (λ (database : Section). is_name name database.name) base.databases) unnamed
-    ∙ by_list base.databases (λ database at. no_name database.name (named_in_base base database (of_base base database is at) ∙ no_master))
+    ∙ by_list base.databases (λ database at. no_name database.name (names.named database at ∙ no_master))
   where
     by_list : (all : List Section) → ((database : Section) → Contains all database → database.name ≡ None)
         → find (λ (database : Section). is_name None database.name) all ≡ slice_get all 0
@@ -190,11 +199,11 @@ place_found name all items same rise named (Err i) within search = record {
 }
 
 -- there is none, where a section has a name and the base no master, or the other way round
-pub no_place : (base : Base) (section : Section) → IsBase base → differ (is_some section.name) base.master ≡ true
+pub no_place : (base : Base) (section : Section) → HasNames base → differ (is_some section.name) base.master ≡ true
     → IsPlaceOf base.databases (partner_of base section) None
-no_place base section is misnamed = record { within = tt; there = sym (no_partner base section is misnamed) }
+no_place base section names misnamed = record { within = tt; there = sym (no_partner base section names misnamed) }
 
 -- where neither has names it is the first
-pub first_place : (base : Base) (section : Section) → IsBase base → base.master ≡ false → section.name ≡ None → 0 < length base.databases
+pub first_place : (base : Base) (section : Section) → HasNames base → base.master ≡ false → section.name ≡ None → 0 < length base.databases
     → IsPlaceOf base.databases (partner_of base section) (Some 0)
-first_place base section is no_master unnamed some = record { within = some; there = sym (first_partner base section is no_master unnamed) }
+first_place base section names no_master unnamed some = record { within = some; there = sym (first_partner base section names no_master unnamed) }

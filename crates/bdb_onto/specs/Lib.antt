@@ -1,7 +1,10 @@
+pub mod Bare
 pub mod Bases
 pub mod Joining
 pub mod Laws
+pub mod Lists
 pub mod Onto
+pub mod Replaced
 pub mod Samples
 pub mod Search
 pub use Rattle.bdb_law_kept.specs as of_law_kept

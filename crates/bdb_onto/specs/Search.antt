@@ -1,5 +1,5 @@
 -- The database of a name among databases in the order of their names, as a search by halving finds it.
-use Rattle.std.specs.Prelude.{◌≡◌, ℕ, ◌<◌, ⊤, Bool, true, List, length, Option, Some, None, Result, Ok, Err, is_some, slice_get}
+use Rattle.std.specs.Prelude.{◌≡◌, ℕ, ◌<◌, ⊤, Bool, true, false, List, length, Option, Some, None, Result, Ok, Err, is_some, slice_get}
 use Rattle.std.specs.Cmp.Lexicographic.{slice_cmp}
 use Rattle.std.specs.List.{Contains}
 use Rattle.std.specs.Ordering.{nat_cmp}
@@ -24,6 +24,16 @@ NamesRise all = AllLater (λ a b. Less (name_of a) (name_of b)) all
 
 abbrev pub AllNamed : List Section → Type 0
 AllNamed all = (database : Section) → Contains all database → is_some database.name ≡ true
+
+-- neither has the name of the other
+abbrev pub Differs : Section → Section → Type 0
+Differs a b = is_name b.name a.name ≡ false
+
+-- under a master the databases of a base have names of their own, in the order of these; without one there is at most one, which has none
+pub record HasNames (base : Base) : Type 0 where
+  pub named : (database : Section) → Contains base.databases database → is_some database.name ≡ base.master
+  pub rise : base.master ≡ true → NamesRise base.databases
+  pub differ : AllLater Differs base.databases
 
 -- the database at the place that a search answers
 abbrev pub place_in : List Section → Result ℕ ℕ → Option Section

@@ -1,9 +1,8 @@
 ghost use Rattle.std.specs.Prelude.{◌≡◌, ◌∷◌, ◌++◌, [], false, None, IfErr, IfOk, OnOk, option_copied};
 ghost use Rattle.std.specs.List.{AllZip, fold};
 ghost use Rattle.bdb_mkfile.specs.of_settle.LoadErrors.{IsSettleRefusal, sooner};
-ghost use Rattle.bdb_onto.specs.Bases.{IsBase};
 ghost use Rattle.bdb_onto.specs.Onto.{is_other, is_unlike, onto_error, onto_errors, partner_of, same_kind};
-ghost use Rattle.bdb_onto.specs.Search.{IsPartnerAt};
+ghost use Rattle.bdb_onto.specs.Search.{HasNames, IsPartnerAt};
 
 use crate::Base;
 use crate::partners::{at_place, is_misnamed, place_of, settings_onto};
@@ -113,7 +112,7 @@ pub(crate) fn partner_places(
     base: &Base,
     sections: &Sections,
 ) -> Result<Vec<Option<usize>>, LoadError>
-    requires { IsBase base.now }
+    requires { HasNames base.now }
     ensures places { IfOk result (λ places. AllZip (IsPartnerAt base.now) sections.now places.items) }
     ensures sound { OnOk result (onto_error base.now sections.now ≡ None) }
     ensures refused { IfErr result (IsSettleRefusal (onto_error base.now sections.now)) }

@@ -3,10 +3,9 @@ ghost use Rattle.std.specs.Prelude.{◌≡◌, ◌≤◌, [], ◌++◌, IfOk, Li
 ghost use Rattle.std.specs.List.{AllZip, flat_map};
 ghost use Rattle.bdb_mkfile.specs.of_text_format.Terms.{slice_seen};
 ghost use Rattle.bdb_mkfile.specs.of_law_sections.Fit.{AreNamedBehind};
-ghost use Rattle.bdb_onto.specs.Bases.{IsBase};
 ghost use Rattle.bdb_onto.specs.Joining.{behind, emptied, place_placed, placed_section, taken_at};
 ghost use Rattle.bdb_onto.specs.Onto.{joined};
-ghost use Rattle.bdb_onto.specs.Search.{IsPartnerAt, IsWithin};
+ghost use Rattle.bdb_onto.specs.Search.{HasNames, IsPartnerAt, IsWithin};
 
 use crate::Base;
 use bdb_format::{Order, Settings};
@@ -56,8 +55,8 @@ fn key_length(key: KeyRef<'_>) -> u64 {
     }
 }
 
-// How many bytes copies of pairs have, with a place of 32 for each. Items of a file may be one, or overlap: then these are more than those of their run.
-fn copied_length(pairs: PairSlice<'_>) -> u64 {
+/// How many bytes copies of pairs have, with a place of 32 for each. Items of a file may be one, or overlap: then these are more than those of their run.
+pub(crate) fn copied_length(pairs: PairSlice<'_>) -> u64 {
     let mut length: u64 = 0;
     for i in 0..pairs.len() {
         let pair = pairs.at(i);
@@ -69,8 +68,8 @@ fn copied_length(pairs: PairSlice<'_>) -> u64 {
     length
 }
 
-// Pairs and others behind them, in the run of those whose copies are longer: so the shorter ones are copied, which are no longer than the text.
-fn pairs_of_both(before: TextPairs, pairs: TextPairs) -> Result<TextPairs, AllocError>
+/// Pairs and others behind them, in the run of those whose copies are longer: so the shorter ones are copied, which are no longer than the text.
+pub(crate) fn pairs_of_both(before: TextPairs, pairs: TextPairs) -> Result<TextPairs, AllocError>
     ensures { IfOk result (λ all. all ≡ before ++ pairs) }
 {
     if copied_length(before.as_slice()) < copied_length(pairs.as_slice()) {
@@ -175,7 +174,7 @@ pub(crate) fn joined(
     sections: Sections,
     places: Vec<Option<usize>>,
 ) -> Result<Sections, AllocError>
-    requires base { IsBase base }
+    requires names { HasNames base }
     requires apart { AreNamedBehind [] sections }
     requires places { AllZip (IsPartnerAt base) sections places.items }
     ensures { IfOk result (λ all. all ≡ joined base sections) }

@@ -1,8 +1,7 @@
 ghost use Rattle.std.specs.Prelude.{◌≡◌, option_copied};
 ghost use Rattle.std.specs.List.{find};
-ghost use Rattle.bdb_onto.specs.Bases.{IsBase};
 ghost use Rattle.bdb_onto.specs.Onto.{is_misnamed, partner_of, settings_onto};
-ghost use Rattle.bdb_onto.specs.Search.{AllNamed, IsPlaceOf, NamesRise, at_place, has_name, order_of};
+ghost use Rattle.bdb_onto.specs.Search.{AllNamed, HasNames, IsPlaceOf, NamesRise, at_place, has_name, order_of};
 
 use crate::Base;
 use bdb_format::Settings;
@@ -37,7 +36,7 @@ pub(crate) fn is_misnamed(base: &Base, section: &Section) -> bool
 
 /// The place in a base of the database that a section is loaded onto, where there is one. Names ascend under a master; without one there is one database.
 pub(crate) fn place_of(base: &Base, section: &Section) -> Option<usize>
-    requires { IsBase base.now }
+    requires { HasNames base.now }
     ensures { IsPlaceOf base.now.databases (partner_of base.now section.now) result }
 {
     if is_misnamed(base, section) {

@@ -1,7 +1,7 @@
 -- A file of the databases that are found has room for all data of those in which none replaces another.
 use Rattle.std.proofs.Common.{◌≡◌, ℕ, ◌+◌, ◌*◌, ◌<◌, ◌≤◌, Bool, true, false, cond, List, [], ◌∷◌, map, Option, Err, arith, refl, sym, ◌∙◌, ap, subst}
 use Rattle.std.proofs.Common.{add-mul, mul-le-mul_right}
-use Rattle.std.specs.Prelude.{is_some, nat_lt}
+use Rattle.std.specs.Prelude.{nat_lt}
 use Rattle.std.specs.List.{sum_by}
 use Rattle.std.proofs.lemmas.Bool.{lt-ltb, ltb-true}
 use Rattle.std.proofs.lemmas.List.Sums.{sum_by-cons}
@@ -13,7 +13,8 @@ use Rattle.bdb_model.specs.of_text_format.declared.sections.Section.{Section}
 use Rattle.bdb_model.specs.of_text_format.Terms.{holds_records}
 use Rattle.bdb_model.specs.of_text_format.Written.{shows_length}
 use Rattle.bdb_mkfile.specs.Builds.{image_size}
-use Rattle.bdb_mkfile.specs.of_need.Need.{master_pages, need_of, section_pages}
+use Rattle.bdb_mkfile.proofs.ShortLemmas.{sections_needed}
+use Rattle.bdb_mkfile.specs.of_need.Need.{need_of, section_pages}
 use Rattle.bdb_mkfile.specs.of_settle.Loaded.{keeps_data, loaded_section}
 use Rattle.bdb_apart.specs.Found.{Found, found}
 use Rattle.bdb_apart.specs.Given.{FoundIn, in_image, pairs_given, records_given}
@@ -95,17 +96,6 @@ sections_room size (it ∷ all) legal =
     omega (arith, rooms, whole, parts, one_room size it legal, sections_room size all legal)
 
 -- Files.
-
--- the pages of sections aren't more than are needed
-sections_needed : (first : Section) (rest : List Section) → sum_by (section_pages first.settings.page_size) (first ∷ rest) ≤ need_of (first ∷ rest)
-sections_needed first rest = by_test (is_some first.name)
-  where
-    pages : ℕ
-    pages = sum_by (section_pages first.settings.page_size) (first ∷ rest)
-
-    by_test : (b : Bool) → pages ≤ cond b (1 + master_pages first.settings.page_size (first ∷ rest)) 0 + pages
-    by_test true = omega arith
-    by_test false = omega arith
 
 all_room : (reading : Reading) (dbs : List Found) → is_page_size reading.guess.page_size ≡ true
     → sum_by found_room (map (in_image reading) dbs) ≤ image_size (map section_in (map (in_image reading) dbs))

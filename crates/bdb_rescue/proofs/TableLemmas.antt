@@ -10,13 +10,27 @@ use Rattle.bdb_rescue.specs.Kept.{HasPart, IsTable, below, part_of}
 use Rattle.bdb_rescue.proofs.ListLemmas.{more_pieces}
 
 -- those of one page more
-pub below_more : {X : Type 0} (from : ℕ → List X) (p : ℕ) → below from p ++ from p ≡ below from (p + 1)
+below_more : {X : Type 0} (from : ℕ → List X) (p : ℕ) → below from p ++ from p ≡ below from (p + 1)
 below_more from p = more_pieces from [] p
 
 -- one bound more
-pub bounds_more : {X : Type 0} (from : ℕ → List X) (p : ℕ) → map (λ q. length (below from q)) (range_with_len 0 (p + 1)) ++ length (below from (p + 1)) ∷ []
+bounds_more : {X : Type 0} (from : ℕ → List X) (p : ℕ) → map (λ q. length (below from q)) (range_with_len 0 (p + 1)) ++ length (below from (p + 1)) ∷ []
     ≡ map (λ q. length (below from q)) (range_with_len 0 (p + 1 + 1))
 bounds_more from p = sym (map-range_with_len_more (λ q. length (below from q)) 0 (p + 1) (p + 1) (omega arith))
+
+-- one page more, of which all was added
+pub page_ended : {X : Type 0} (from : ℕ → List X) (page : ℕ) (bounds ends : List ℕ) (before all : List X) (n : ℕ) → IsTable from page bounds before
+    → all ≡ before ++ from page → n ≡ length all → ends ≡ bounds ++ n ∷ [] → IsTable from (page + 1) ends all
+page_ended {X = X} from page bounds ends before all n table more long ended =
+    let whole : all ≡ below from (page + 1) = more ∙ (ap (λ xs. xs ++ from page) table.all_are ∙ below_more from page) in
+    record {
+      bounds_are =
+          ended
+          ∙ (ap (λ ns. ns ++ n ∷ []) table.bounds_are
+          ∙ (ap (λ k. map (λ q. length (below from q)) (range_with_len 0 (page + 1)) ++ k ∷ []) (long ∙ ap (λ xs. length xs) whole)
+          ∙ bounds_more from page));
+      all_are = whole;
+    }
 
 split_at : {X : Type 0} (from : ℕ → List X) (count n m : ℕ) → n + m ≡ count → below from count ≡ below from n ++ flat_map from (range_with_len n m)
 split_at from count n m all =

@@ -2,11 +2,12 @@
 ghost use Rattle.std.specs.Prelude.{◌≡◌, ◌==◌, ◌<◌, ◌∷◌, ◌+◌, ◌*◌, ◌++◌, ◌≤◌, ◌^◌, [], ℕ, List, IfOk, IfSome, IsTrue, OnOk, drop, length, map, take};
 ghost use Rattle.std.specs.List.{All, Contains, filter, flat_map};
 ghost use Rattle.bdb_rescue.specs.Gathered.{Adds, Grows, StandFrom, has_length, is_record_of, loose_pair, loose_pairs, set_data, stored_pair};
-ghost use Rattle.bdb_rescue.specs.Kept.{IsKeptPair, IsKeptValue, data_at, data_here, file_in, given_live, is_held, item_of, numbered_at, untaken_on, value_at};
+ghost use Rattle.bdb_rescue.specs.Kept.{IsKeptPair, IsKeptValue, data_at, data_here, file_in, given_live, item_of, numbered_at, untaken_on, value_at};
 ghost use Rattle.bdb_survey.specs.Items.{is_valued};
 ghost use Rattle.bdb_survey.specs.Salvage.{is_whole, loose, set_starts, stored, stored_on};
 ghost use Rattle.bdb_survey.specs.of_layout.Seen.{content_seen};
 ghost use Rattle.bdb_survey.specs.of_overflow.Datum.{datum_seen};
+ghost use Rattle.bdb_rescue.specs.declared.kept.DataPlace.TheVariants.{Here};
 ghost use Rattle.bdb_text_format.specs.declared.pairs.TextPair.{TextPair};
 ghost use Rattle.bdb_text_format.specs.of_places.Places.{span_in};
 ghost use Rattle.bdb_text_format.specs.Terms.{HasChains, IsKeyPlaced, IsPiecePut, IsSpanOf, Keeps};
@@ -236,19 +237,21 @@ impl<'s, 'a> Gatherer<'s, 'a> {
         }
     }
 
-    // Adds a key with the data in a data item.
-    #[tactic(auto, unfolding(crate::specs::Below::value_of))]
-    fn push_here(
-        &mut self,
-        key: PlacedKey,
-        content: Content<'a>,
-        item: ItemAt,
-    ) -> Result<(), AllocError>
-        requires held { IsTrue (is_held (file_in self.old.reading) (content_seen content)) }
+    // Adds a key with the data in the data item of a pair.
+    #[tactic(auto, using(crate::proofs::LooseLemmas::set_values), unfolding(crate::specs::Below::value_of))]
+    fn push_here(&mut self, key: PlacedKey, pair: KeptPair) -> Result<(), AllocError>
+        requires pair { IsKeptPair (file_in self.old.reading) pair }
+        requires here { pair.place ≡ Here }
         requires key { IsKeyPlaced self.old.gathered.bytes key }
-        ensures { OnOk result (Adds self.old self.new key (data_here (file_in self.old.reading) (content_seen content.entry))) }
+        ensures { OnOk result (Adds self.old self.new key
+            (data_here (file_in self.old.reading) (item_of (file_in self.old.reading) pair.page (2 * pair.index + 1)).content)) }
     {
-        match content {
+        let item = ItemAt {
+            page: pair.page,
+            index: 2 * u32::from(pair.index) + 1,
+            paired: true,
+        };
+        match self.salvaged.pages().content(item.page, item.index) {
             Content::Inline(bytes) => self.push_bytes(key, bytes, item, 0),
             Content::Set(blocks) => self.push_blocks(key, blocks, item),
             Content::Overflow { head, total } => {
@@ -267,15 +270,7 @@ impl<'s, 'a> Gatherer<'s, 'a> {
             (data_at (file_in self.old.reading) (item_of (file_in self.old.reading) pair.page (2 * pair.index + 1)).content pair.place)) }
     {
         match pair.place {
-            DataPlace::Here => {
-                let item = ItemAt {
-                    page: pair.page,
-                    index: 2 * u32::from(pair.index) + 1,
-                    paired: true,
-                };
-                let content = self.salvaged.pages().content(item.page, item.index);
-                self.push_here(key, content, item)
-            }
+            DataPlace::Here => self.push_here(key, pair),
             DataPlace::Set { leaf } => self.push_set(key, leaf),
         }
     }

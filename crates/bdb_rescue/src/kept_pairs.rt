@@ -1,11 +1,11 @@
 ghost use Rattle.std.specs.Prelude.{◌≡◌, ◌++◌, ◌+◌, ◌*◌, ◌^◌, ◌<◌, IfOk, OnOk, length};
 ghost use Rattle.bdb_survey.specs.of_layout.Seen.{content_seen};
 ghost use Rattle.std.specs.Option.{option_to_list};
-ghost use Rattle.bdb_rescue.specs.Kept.{IsTable, data_places, kept_in, kept_on, kept_pair, kept_pairs};
+ghost use Rattle.bdb_rescue.specs.Kept.{IsTable, data_places, kept_on, kept_pair, kept_pairs};
 ghost use Rattle.bdb_survey.specs.Slots.{slots_seen};
 
 use crate::kept::{DataPlace, KeptPair};
-use crate::tables::Table;
+use crate::tables::{Table, push_some};
 use bdb_survey::{Content, Slots, Survey, paired_slots};
 use std::alloc::{AllocError, Global};
 
@@ -47,40 +47,17 @@ fn kept_pair(survey: &Survey<'_>, slots: &Slots<'_>, page: u32, index: u16) -> O
     })
 }
 
-/// Adds a pair, if there is one.
-fn push_pair(kept: &mut Vec<KeptPair>, pair: Option<KeptPair>) -> Result<(), AllocError>
-    ensures { OnOk result (kept.new.items ≡ kept.old.items ++ option_to_list pair) }
-{
-    match pair {
-        Some(pair) => kept.push(pair)?,
-        None => {}
-    }
-    Ok(())
-}
-
-/// Adds the pairs among some items whose key and data are whole.
-fn keep_among(
-    kept: &mut Vec<KeptPair>,
-    survey: &Survey<'_>,
-    slots: &Slots<'_>,
-    page: u32,
-) -> Result<(), AllocError>
-    ensures { OnOk result (kept.new.items ≡ kept.old.items ++ kept_in survey.now page (slots_seen slots.now)) }
-{
-    for index in 0..slots.count() / 2 {
-        push_pair(kept, kept_pair(survey, slots, page, index))?;
-    }
-    Ok(())
-}
-
-/// The same of a page.
+/// Adds the pairs of a page whose key and data are whole.
 fn keep_page(kept: &mut Vec<KeptPair>, survey: &Survey<'_>, page: u32) -> Result<(), AllocError>
     ensures { OnOk result (kept.new.items ≡ kept.old.items ++ kept_on survey.now page) }
 {
-    match paired_slots(survey.pages().page(page)) {
-        Some(slots) => keep_among(kept, survey, &slots, page),
-        None => Ok(()),
+    let Some(slots) = paired_slots(survey.pages().page(page)) else {
+        return Ok(());
+    };
+    for index in 0..slots.count() / 2 {
+        push_some(kept, kept_pair(survey, &slots, page, index))?;
     }
+    Ok(())
 }
 
 /// The pairs of all pages whose key and data are whole, live or deleted, in the order of page and slot.
@@ -88,12 +65,10 @@ pub(crate) fn kept_pairs(alloc: Global, survey: &Survey<'_>) -> Result<Table<Kep
     ensures pages { IfOk result (λ kept. IsTable (kept_on survey.now) survey.now.count kept.bounds.items kept.all.items) }
     ensures all { IfOk result (λ kept. kept.all.items ≡ kept_pairs survey.now) }
 {
-    let mut bounds = Vec::new(alloc);
-    let mut all: Vec<KeptPair> = Vec::new(alloc);
-    bounds.push(0)?;
+    let mut kept = Table::new(alloc)?;
     for page in 0..survey.pages().count() {
-        keep_page(&mut all, survey, page)?;
-        bounds.push(all.len())?;
+        keep_page(&mut kept.all, survey, page)?;
+        kept.end_page()?;
     }
-    Ok(Table { bounds, all })
+    Ok(kept)
 }

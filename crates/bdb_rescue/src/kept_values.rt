@@ -1,4 +1,4 @@
-ghost use Rattle.std.specs.Prelude.{◌≡◌, ◌++◌, ◌<◌, IfOk, OnOk, if◌then◌else◌, [], length};
+ghost use Rattle.std.specs.Prelude.{◌≡◌, ◌++◌, ◌<◌, IfOk, OnOk, length};
 ghost use Rattle.bdb_text_format.specs.of_format.Terms.{chain};
 ghost use Rattle.std.specs.List.{flat_map};
 ghost use Rattle.std.specs.Option.{option_to_list};
@@ -9,7 +9,7 @@ ghost use Rattle.bdb_survey.specs.Slots.{slots_seen};
 
 use crate::kept::KeptValue;
 use crate::starts::is_marked;
-use crate::tables::Table;
+use crate::tables::{Table, push_some};
 use bdb_survey::{Slots, Survey, entry_slots};
 use std::alloc::{AllocError, Global};
 
@@ -28,17 +28,6 @@ fn kept_value(survey: &Survey<'_>, slots: &Slots<'_>, page: u32, index: u16) -> 
     }
 }
 
-/// Adds a value, if there is one.
-fn push_value(kept: &mut Vec<KeptValue>, value: Option<KeptValue>) -> Result<(), AllocError>
-    ensures { OnOk result (kept.new.items ≡ kept.old.items ++ option_to_list value) }
-{
-    match value {
-        Some(value) => kept.push(value)?,
-        None => {}
-    }
-    Ok(())
-}
-
 /// Adds the live entries among some items that have a whole value.
 fn keep_among(
     kept: &mut Vec<KeptValue>,
@@ -49,7 +38,7 @@ fn keep_among(
     ensures { OnOk result (kept.new.items ≡ kept.old.items ++ values_in survey.now page (slots_seen slots.now)) }
 {
     for index in 0..slots.count() {
-        push_value(kept, kept_value(survey, slots, page, index))?;
+        push_some(kept, kept_value(survey, slots, page, index))?;
     }
     Ok(())
 }
@@ -69,21 +58,6 @@ pub(crate) fn keep_leaf(
     }
 }
 
-/// The same of a leaf that isn't taken.
-fn keep_loose(
-    kept: &mut Vec<KeptValue>,
-    survey: &Survey<'_>,
-    page: u32,
-    taken: bool,
-) -> Result<(), AllocError>
-    ensures { OnOk result (kept.new.items ≡ kept.old.items ++ (if taken then [] else values_on survey.now page)) }
-{
-    if taken {
-        return Ok(());
-    }
-    keep_leaf(kept, survey, page)
-}
-
 /// The live entries that have a whole value, of all leaves of records and of sorted data that belong to no whole
 /// set of a pair with a whole key, in the order of page and slot.
 pub(crate) fn loose_values(
@@ -95,12 +69,12 @@ pub(crate) fn loose_values(
     ensures pages { IfOk result (λ kept. IsTable (untaken_on survey.now) survey.now.count kept.bounds.items kept.all.items) }
     ensures all { IfOk result (λ kept. kept.all.items ≡ loose_values survey.now) }
 {
-    let mut bounds = Vec::new(alloc);
-    let mut all: Vec<KeptValue> = Vec::new(alloc);
-    bounds.push(0)?;
+    let mut kept = Table::new(alloc)?;
     for page in 0..survey.pages().count() {
-        keep_loose(&mut all, survey, page, is_marked(taken, page))?;
-        bounds.push(all.len())?;
+        if !is_marked(taken, page) {
+            keep_leaf(&mut kept.all, survey, page)?;
+        }
+        kept.end_page()?;
     }
-    Ok(Table { bounds, all })
+    Ok(kept)
 }

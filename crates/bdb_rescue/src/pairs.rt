@@ -33,14 +33,17 @@ impl<'s, 'a> Model for SalvagePairs<'s, 'a> {
 
 impl<'s, 'a> SalvagePairs<'s, 'a> {
     /// The pairs at some places.
-    pub(crate) fn among(salvaged: &'s Salvaged<'a>, pairs: &'s [KeptPair]) -> SalvagePairs<'s, 'a>
-        requires { All (IsKeptPair (file_in salvaged.now)) pairs.now }
-        ensures { result ≡ flat_map (given_live (file_in salvaged.now)) pairs.now }
+    pub(crate) fn among(
+        salvaged: &'s Salvaged<'a>,
+        pairs: Places<'s, KeptPair>,
+    ) -> SalvagePairs<'s, 'a>
+        requires { All (IsKeptPair (file_in salvaged.now)) pairs }
+        ensures { result ≡ flat_map (given_live (file_in salvaged.now)) pairs.entry }
     {
         SalvagePairs {
             salvaged,
             here: None,
-            pairs: Places::over(pairs),
+            pairs,
         }
     }
 
@@ -49,7 +52,7 @@ impl<'s, 'a> SalvagePairs<'s, 'a> {
     pub(crate) fn over(salvaged: &'s Salvaged<'a>) -> SalvagePairs<'s, 'a>
         ensures { result ≡ flat_map (given_live (file_in salvaged.now)) (kept_pairs (file_in salvaged.now)) }
     {
-        SalvagePairs::among(salvaged, salvaged.kept_pairs())
+        SalvagePairs::among(salvaged, Places::over(salvaged.kept_pairs()))
     }
 }
 

@@ -15,10 +15,11 @@ use crate::guess::chosen;
 use crate::kept::{KeptPair, KeptValue};
 use crate::kept_pairs::kept_pairs;
 use crate::kept_values::loose_values;
-use crate::sets::{SetTable, set_table};
+use crate::places::Places;
+use crate::sets::set_table;
 use crate::starts::{first_leaves, is_marked, taken_pages};
 use crate::tables::{Table, part};
-use crate::thin::{ThinTable, thin_table};
+use crate::thin::thin_table;
 use crate::{Guess, SalvageEntries, SalvageError, SalvagePairs, SalvageRecords, SalvageValues};
 use bdb_survey::{Content, Datum, Survey, WholePages};
 use bdb_text_format::Steps;
@@ -36,8 +37,8 @@ pub struct Salvaged<'a> {
     values: Table<KeptValue>,
     /// Which pages belong to a whole set of a pair whose key is whole.
     taken: Vec<bool>,
-    sets: SetTable,
-    thin: ThinTable,
+    sets: Table<KeptValue>,
+    thin: Table<u8>,
 }
 
 impl Drop for Salvaged<'_> {
@@ -62,7 +63,7 @@ impl<'a> Model for Salvaged<'a> {
     ghost view = { λ v. record { guess = v.guess; image = v.image.now } };
 
     ghost invariant = { λ v. IsSalvaged v.guess v.image.now v.pairs.bounds.items v.pairs.all.items v.values.bounds.items v.values.all.items
-        v.taken.items v.sets.bounds.items v.sets.values.items v.thin.bounds.items v.thin.bytes.items };
+        v.taken.items v.sets.bounds.items v.sets.all.items v.thin.bounds.items v.thin.all.items };
 }
 
 /// Finds what an image still has, by the given guess or else that of page 0. `NoMeta` without a guess, and then no memory is asked for; or memory ran
@@ -109,11 +110,11 @@ fn values_beside(
     alloc: Global,
     survey: &Survey<'_>,
     pairs: &[KeptPair],
-) -> Result<(Table<KeptValue>, Vec<bool>, SetTable), AllocError>
+) -> Result<(Table<KeptValue>, Vec<bool>, Table<KeptValue>), AllocError>
     requires { pairs.now ≡ kept_pairs survey.now }
     ensures loose { IfOk result (λ kept. IsTable (untaken_on survey.now) survey.now.count kept.0.bounds.items kept.0.all.items) }
     ensures taken { IfOk result (λ kept. AreTaken survey.now kept.1.items) }
-    ensures sets { IfOk result (λ kept. IsTable (set_from survey.now) survey.now.count kept.2.bounds.items kept.2.values.items) }
+    ensures sets { IfOk result (λ kept. IsTable (set_from survey.now) survey.now.count kept.2.bounds.items kept.2.all.items) }
 {
     let starts = first_leaves(alloc, survey.pages(), pairs)?;
     let (values, taken) = loose_beside(alloc, survey, &starts)?;
@@ -198,7 +199,7 @@ impl<'a> Salvaged<'a> {
         requires { page < (file_in self.now).count }
         ensures { result ≡ stored_on (file_in self.now) page }
     {
-        SalvagePairs::among(self, self.pairs_at(page))
+        SalvagePairs::among(self, Places::over(self.pairs_at(page)))
     }
 
     /// The loose records of a page, in the order of slot, each with its number, where `start` records come before the page.
@@ -292,7 +293,7 @@ impl<'a> Salvaged<'a> {
         requires { IsTrue (is_row (file_in self.now) is_overflow head) }
         ensures { result.now ≡ thin_from (file_in self.now) head }
     {
-        part(&self.thin.bounds, &self.thin.bytes, head)
+        part(&self.thin.bounds, &self.thin.all, head)
     }
 
     /// The value in a whole chain. Pages without data are passed only where it has as many bytes as pages.
@@ -346,7 +347,7 @@ impl<'a> Salvaged<'a> {
         requires { Contains (set_starts (file_in self.now)) leaf }
         ensures { result.now ≡ flat_map (values_on (file_in self.now)) (chain (file_in self.now) leaf) }
     {
-        part(&self.sets.bounds, &self.sets.values, leaf)
+        part(&self.sets.bounds, &self.sets.all, leaf)
     }
 
     /// The values of the set that begins at a page.

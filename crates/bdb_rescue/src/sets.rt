@@ -1,5 +1,5 @@
-ghost use Rattle.std.specs.Prelude.{◌≡◌, ◌+◌, ◌++◌, IfOk, OnOk, if◌then◌else◌, [], map};
-ghost use Rattle.std.specs.List.{flat_map, range_with_len};
+ghost use Rattle.std.specs.Prelude.{◌≡◌, ◌+◌, ◌++◌, IfOk, OnOk, if◌then◌else◌, []};
+ghost use Rattle.std.specs.List.{flat_map};
 ghost use Rattle.bdb_text_format.specs.of_format.Terms.{chain};
 ghost use Rattle.bdb_rescue.specs.Kept.{IsTable, set_from, values_on};
 ghost use Rattle.bdb_rescue.specs.Marks.{Marks};
@@ -8,17 +8,9 @@ ghost use Rattle.bdb_survey.specs.Salvage.{set_starts};
 use crate::kept::KeptValue;
 use crate::kept_values::keep_leaf;
 use crate::starts::is_marked;
+use crate::tables::Table;
 use bdb_survey::{RowPages, Survey};
 use std::alloc::{AllocError, Global};
-
-/// The whole values of the live entries of the whole sets of pairs, each set's together, in the order of first
-/// leaves: a set is walked once, however many pairs name it.
-#[derive(Drop)]
-pub(crate) struct SetTable {
-    /// How many values are in sets that begin below each page, and below the end.
-    pub(crate) bounds: Vec<usize>,
-    pub(crate) values: Vec<KeptValue>,
-}
 
 /// Adds the values of the set that begins at a page.
 fn keep_set(kept: &mut Vec<KeptValue>, survey: &Survey<'_>, first: u32) -> Result<(), AllocError>
@@ -45,21 +37,20 @@ fn keep_started(
     Ok(())
 }
 
-/// The values of all sets whose first leaves are marked.
+/// The whole values of the live entries of the whole sets of pairs, whose first leaves are marked: each set's together, in the order of first leaves. A
+/// set is walked once, however many pairs name it.
 pub(crate) fn set_table(
     alloc: Global,
     survey: &Survey<'_>,
     starts: &[bool],
-) -> Result<SetTable, AllocError>
+) -> Result<Table<KeptValue>, AllocError>
     requires { Marks survey.now.count starts.now (set_starts survey.now) }
-    ensures { IfOk result (λ table. IsTable (set_from survey.now) survey.now.count table.bounds.items table.values.items) }
+    ensures { IfOk result (λ table. IsTable (set_from survey.now) survey.now.count table.bounds.items table.all.items) }
 {
-    let mut bounds = Vec::new(alloc);
-    let mut values: Vec<KeptValue> = Vec::new(alloc);
-    bounds.push(0)?;
+    let mut sets = Table::new(alloc)?;
     for page in 0..survey.pages().count() {
-        keep_started(&mut values, survey, page, is_marked(starts, page))?;
-        bounds.push(values.len())?;
+        keep_started(&mut sets.all, survey, page, is_marked(starts, page))?;
+        sets.end_page()?;
     }
-    Ok(SetTable { bounds, values })
+    Ok(sets)
 }

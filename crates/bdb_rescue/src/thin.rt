@@ -2,17 +2,9 @@ ghost use Rattle.std.specs.Prelude.{◌≡◌, ◌++◌, IfOk, OnOk};
 ghost use Rattle.bdb_text_format.specs.of_format.Terms.{joined};
 ghost use Rattle.bdb_rescue.specs.Kept.{IsTable, bytes_in, thin_from};
 
+use crate::tables::Table;
 use bdb_survey::{Pieces, Survey};
 use std::alloc::{AllocError, Global};
-
-/// The bytes of the whole chains that have fewer bytes than pages, each chain's together, in the order of their
-/// heads: such a chain is walked once, however many items name it. They are fewer than the pages.
-#[derive(Drop)]
-pub(crate) struct ThinTable {
-    /// How many bytes are in chains that begin below each page, and below the end.
-    pub(crate) bounds: Vec<usize>,
-    pub(crate) bytes: Vec<u8>,
-}
 
 /// Adds the bytes of pieces.
 fn push_pieces(bytes: &mut Vec<u8>, pieces: Pieces<'_>) -> Result<(), AllocError>
@@ -34,16 +26,15 @@ fn push_thin(bytes: &mut Vec<u8>, pieces: Option<Pieces<'_>>) -> Result<(), Allo
     }
 }
 
-/// The bytes of all such chains.
-pub(crate) fn thin_table(alloc: Global, survey: &Survey<'_>) -> Result<ThinTable, AllocError>
-    ensures { IfOk result (λ table. IsTable (thin_from survey.now) survey.now.count table.bounds.items table.bytes.items) }
+/// The bytes of the whole chains that have fewer bytes than pages, each chain's together, in the order of their heads: such a chain is walked once,
+/// however many items name it. They are fewer than the pages.
+pub(crate) fn thin_table(alloc: Global, survey: &Survey<'_>) -> Result<Table<u8>, AllocError>
+    ensures { IfOk result (λ table. IsTable (thin_from survey.now) survey.now.count table.bounds.items table.all.items) }
 {
-    let mut bounds = Vec::new(alloc);
-    let mut bytes: Vec<u8> = Vec::new(alloc);
-    bounds.push(0)?;
+    let mut thin = Table::new(alloc)?;
     for page in 0..survey.pages().count() {
-        push_thin(&mut bytes, survey.thin_pieces(page))?;
-        bounds.push(bytes.len())?;
+        push_thin(&mut thin.all, survey.thin_pieces(page))?;
+        thin.end_page()?;
     }
-    Ok(ThinTable { bounds, bytes })
+    Ok(thin)
 }

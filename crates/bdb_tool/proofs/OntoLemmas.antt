@@ -13,8 +13,7 @@ use Rattle.bdb_repair.specs.of_model.Answers.{Answer, told}
 use Rattle.bdb_repair.specs.of_model.Change.{Change}
 use Rattle.bdb_repair.specs.of_model.Lines.{memory_line}
 use Rattle.bdb_tool_ask.proofs.of_tool_lines.PrintingLemmas.{moved}
-use Rattle.bdb_tool_build.specs.of_onto.declared.base.Base.{Base}
-use Rattle.bdb_tool_build.specs.of_onto.Bases.{IsBaseOf}
+use Rattle.bdb_tool_build.specs.of_onto.Bases.{base_of}
 use Rattle.bdb_tool_build.specs.Ontos.{IsTextOnto}
 use Rattle.bdb_tool_words.specs.Commands.{Command, LoadOnto, command_of, command_on, handed, reads_base}
 use Rattle.bdb_tool.specs.Ontos.{IsOntoAnswer, IsOntoBy, IsOntoBySize, base_too_large_line}
@@ -50,17 +49,17 @@ refused_ends FirstMemory limit text image written faults err status is tells = U
 -- A base that is sound.
 
 -- an answer to a text on the base that an image is
-of_base : (limit : ℕ) (base : Base) (text image : List ℕ) (answer : Answer) → IsBaseOf image base → verdict_of image ≡ None → IsTextOnto limit base text answer
+of_base : (limit : ℕ) (text image sound : List ℕ) (answer : Answer) → sound ≡ image → verdict_of image ≡ None → IsTextOnto limit (base_of sound) text answer
     → IsOntoBy limit (verdict_of image) text image answer
-of_base limit base text image answer is sound answers =
-    subst (λ verdict. IsOntoBy limit verdict text image answer) (sym sound) (subst (λ (b : Base). IsTextOnto limit b text answer) is.1 answers)
+of_base limit text image sound answer is none answers =
+    subst (λ verdict. IsOntoBy limit verdict text image answer) (sym none) (subst (λ (it : List ℕ). IsTextOnto limit (base_of it) text answer) is answers)
 
 -- what is written of one answer is written of it by another rule
-pub ends_on_base : (limit : ℕ) (base : Base) (text image : List ℕ) (out err : Change) (status : ℕ) → IsBaseOf image base → verdict_of image ≡ None
-    → Ends (IsTextOnto limit base text) out err status → Ends (IsOntoBy limit (verdict_of image) text image) out err status
-ends_on_base limit base text image out err status is sound (Answered answer answers finishes) =
-    Answered answer (of_base limit base text image answer is sound answers) finishes
-ends_on_base limit base text image out err status is sound (Unanswered stays tells) = Unanswered stays tells
+pub ends_on_base : (limit : ℕ) (text image sound : List ℕ) (out err : Change) (status : ℕ) → sound ≡ image → verdict_of image ≡ None
+    → Ends (IsTextOnto limit (base_of sound) text) out err status → Ends (IsOntoBy limit (verdict_of image) text image) out err status
+ends_on_base limit text image sound out err status is none (Answered answer answers finishes) =
+    Answered answer (of_base limit text image sound answer is none answers) finishes
+ends_on_base limit text image sound out err status is none (Unanswered stays tells) = Unanswered stays tells
 
 -- A base that isn't read whole.
 

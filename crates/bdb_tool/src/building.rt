@@ -11,7 +11,7 @@ ghost use Rattle.bdb_tool_build.specs.Trials.{IsTrialAnswer};
 use bdb_repair::{Image, Sink, Steps};
 use bdb_tool_ask::status::{BAD_TEXT, TOO_LARGE};
 use bdb_tool_ask::{put, refuse, report, tell, tell_memory};
-use bdb_tool_build::{Refusal, base_of, load_text, load_text_onto, trial_text};
+use bdb_tool_build::{Refusal, load_text, load_text_onto, open_base, trial_text};
 use bdb_tool_words::Trial;
 use std::alloc::Global;
 use std::sync::ledger::Ledger;
@@ -53,7 +53,7 @@ pub(crate) fn answer_load<K: Sink, E: Sink>(
     answer_built(built, out, err)
 }
 
-/// Answers `load` of a text onto a base, whose image is given up once its databases are copied. Nothing is written before the image
+/// Answers `load` of a text onto a base, whose databases are copied out of its image one at a time. Nothing is written before the image of the answer
 /// stands whole.
 pub(crate) fn answer_onto<K: Sink, E: Sink, L: Ledger>(
     alloc: Global,
@@ -70,9 +70,9 @@ pub(crate) fn answer_onto<K: Sink, E: Sink, L: Ledger>(
     ensures { Ends (IsOntoBy limit (verdict_of image) text image) (change K.written K.faults out.old out.new)
         (change E.written E.faults err.old err.new) result }
 {
-    match base_of(alloc, image, steps) {
-        Ok(base) => {
-            let built = load_text_onto(alloc, text, base, limit);
+    match open_base(alloc, image.bytes(), steps) {
+        Ok(sound) => {
+            let built = load_text_onto(alloc, text, &sound, limit);
             answer_built(built, out, err)
         }
         Err(error) => refuse(alloc, error, err),

@@ -18,7 +18,10 @@ use Rattle.bdb_text_format.specs.declared.pairs.Key.TheVariants.{Bytes, Number}
 use Rattle.bdb_text_format.specs.Terms.{Extends, Gathering, HasChains, IsKeyPlaced, IsPiecePut, pair_with, placed_key}
 use Rattle.bdb_text_format.proofs.GatheredLemmas.{chains_same}
 use Rattle.bdb_text_format.proofs.PlacedLemmas.{key_stays, key_within}
-use Rattle.bdb_tool_build.specs.Gathered.{Adds, Grows, HasKey, ImageInHand, with_key}
+use Rattle.bdb_onto.specs.declared.beside.Beside.{Beside}
+use Rattle.bdb_text_format.specs.declared.pairs.TextPair.{TextPair}
+use Rattle.bdb_tool_build.specs.Gathered.{AddsEnough, Adds, Grows, HasKey, ImageInHand, with_key}
+use Rattle.bdb_tool_build.proofs.EnoughLemmas.{adds_all}
 
 -- The same pairs with a run that grew, and then more of them.
 
@@ -126,19 +129,29 @@ pub listed_keyed : (key : List ℕ) (values : List (List ℕ)) → with_key (Byt
 listed_keyed key [] = refl
 listed_keyed key (value ∷ values) = ap (λ more. pair_with (Bytes key) value 0 ∷ more) (listed_keyed key values)
 
-pub pair_given : (old mid new : ImageInHand) (key : PlacedKey) (pair : PairOf Item) → pair.value.deleted ≡ false → Grows old mid
-    → HasKey mid (value_of (file_of old.image) pair.key.content) key → Adds mid new key (data_of (file_of mid.image) pair.value.content)
-    → new.gathered.pairs ≡ old.gathered.pairs ++ map text_pair (listed_pair (file_of old.image) (stored_pair (file_of old.image) 0 pair))
-pair_given old mid new key pair live grows has adds =
-    let bytes : List ℕ = value_of (file_of old.image) pair.key.content in
-    let values : List ℕ → List (List ℕ) = λ image. data_of (file_of image) pair.value.content in
-    let listed : List (ListKey × List ℕ) = map (λ value. (BytesKey bytes, value)) (values old.image) in
-    adds.pairs
-    ∙ (ap (λ pairs. pairs ++ with_key (placed_key mid.gathered.bytes key) (values mid.image)) grows.pairs
-    ∙ (ap (λ k. old.gathered.pairs ++ with_key k (values mid.image)) has.same
-    ∙ (ap (λ (image : List ℕ). old.gathered.pairs ++ with_key (Bytes bytes) (values image)) grows.image
-    ∙ (ap (λ more. old.gathered.pairs ++ more) (listed_keyed bytes (values old.image))
-    ∙ ap (λ b. old.gathered.pairs ++ map text_pair (cond (not b) listed [])) (sym live)))))
+-- nothing, where it's deleted
+pub deleted_given : (beside : Beside) (file : File) (old new : List TextPair) (pair : PairOf Item) → new ≡ old → pair.value.deleted ≡ true
+    → AddsEnough beside old new (map text_pair (listed_pair file (stored_pair file 0 pair)))
+deleted_given beside file old new pair same deleted =
+    let listed : List (ListKey × List ℕ) = map (λ value. (BytesKey (value_of file pair.key.content), value)) (data_of file pair.value.content) in
+    adds_all beside old new (map text_pair (listed_pair file (stored_pair file 0 pair)))
+    (same ∙ (sym (append-nil old) ∙ ap (λ b. old ++ map text_pair (cond (not b) listed [])) (sym deleted)))
+
+-- else its key with its data, where these aren't replaced
+pub pair_enough : (beside : Beside) (old mid : ImageInHand) (new : List TextPair) (bytes : List ℕ) (pair : PairOf Item) → pair.value.deleted ≡ false
+    → Grows old mid → bytes ≡ value_of (file_of old.image) pair.key.content
+    → AddsEnough beside mid.gathered.pairs new (with_key (Bytes bytes) (data_of (file_of mid.image) pair.value.content))
+    → AddsEnough beside old.gathered.pairs new (map text_pair (listed_pair (file_of old.image) (stored_pair (file_of old.image) 0 pair)))
+pair_enough beside old mid new bytes pair live grows same adds =
+    let file : File = file_of old.image in
+    let key : List ℕ = value_of file pair.key.content in
+    let values : List (List ℕ) = data_of file pair.value.content in
+    let listed : List (ListKey × List ℕ) = map (λ value. (BytesKey key, value)) values in
+    subst (λ now. AddsEnough beside now new (map text_pair (listed_pair file (stored_pair file 0 pair)))) grows.pairs
+    (subst (AddsEnough beside mid.gathered.pairs new)
+    (ap (λ (i : List ℕ). with_key (Bytes bytes) (data_of (file_of i) pair.value.content)) grows.image
+    ∙ (ap (λ b. with_key (Bytes b) values) same
+    ∙ (listed_keyed key values ∙ ap (λ b. map text_pair (cond (not b) listed [])) (sym live)))) adds)
 
 -- a record with its number, unless it's deleted
 pub record_given : (file : File) (number : ℕ) (entry : Item) → with_key (Number number) (values_of file (entry ∷ [])) ≡ map text_pair (listed_entry file (number, entry))

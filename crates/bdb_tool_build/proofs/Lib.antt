@@ -1,5 +1,6 @@
 pub mod BaseLemmas
 mod Below
+pub mod EnoughLemmas
 pub mod GatheredLemmas
 pub mod LoadLemmas
 pub mod OntoLemmas

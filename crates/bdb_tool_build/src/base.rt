@@ -1,17 +1,20 @@
-//! The databases of a sound file, copied out of it.
+//! The databases of a sound file: all of them without their pairs, and the pairs of one at a time, copied out of it.
 ghost use Rattle.std.specs.Prelude.{◌≡◌, ◌<◌, ◌≤◌, ◌^◌, IfErr, IfOk, None, OnOk, is_some, length, map, option_copied};
 ghost use Rattle.bdb_file.specs.of_databases.Named.{database_at};
 ghost use Rattle.bdb_file.specs.of_faults.Refusals.{IsFirstRefusal};
 ghost use Rattle.bdb_model.specs.of_format.Terms.{databases, faults_of, file_of, list_of, master_in, page_at, verdict_of};
-ghost use Rattle.bdb_onto.specs.Bases.{IsBaseOf, base_of, base_section, text_pair};
+ghost use Rattle.bdb_onto.specs.Bare.{bare, bare_of};
+ghost use Rattle.bdb_onto.specs.Bases.{IsBase, base_of, base_section, text_pair};
+ghost use Rattle.bdb_onto.specs.Onto.{pairs_from, partner_of};
+ghost use Rattle.bdb_onto.specs.Replaced.{AreEnough};
+ghost use Rattle.bdb_tool_build.specs.Gathered.{IsEnough};
 
 use crate::copied::Rooms;
 use crate::table::table_pairs;
 use crate::tree::tree_pairs;
 use bdb_file::{Db, First, FirstError, Meta, Scan, Sound, sound_by};
-use bdb_io::Image;
 use bdb_model::{Bytes, Section, Sections, Steps, TextPairs};
-use bdb_onto::Base;
+use bdb_onto::{Base, Beside};
 use std::alloc::{AllocError, Global};
 use std::sync::ledger::Ledger;
 
@@ -50,40 +53,44 @@ fn scanned_pairs(alloc: Global, sound: &Sound<'_>, db: Db) -> Result<TextPairs, 
     }
 }
 
-// The pairs of a database: of a btree and a recno leaf by leaf, of a hash pair by pair, so that no key and no chain is copied twice.
-fn base_pairs(alloc: Global, sound: &Sound<'_>, db: Db) -> Result<TextPairs, AllocError>
+// The pairs of a database, but for those that a section replaces: of a btree and a recno leaf by leaf, of a hash pair by pair, so that no key and no chain is
+// copied twice.
+fn base_pairs(
+    alloc: Global,
+    sound: &Sound<'_>,
+    db: Db,
+    beside: &Beside<'_>,
+) -> Result<TextPairs, AllocError>
     requires { db < length (databases (file_of sound.now)) }
-    ensures { IfOk result (λ pairs. pairs ≡ map text_pair (list_of (file_of sound.now) (database_at (file_of sound.now) db).fields)) }
+    ensures { IfOk result (IsEnough beside.now (map text_pair (list_of (file_of sound.now) (database_at (file_of sound.now) db).fields))) }
 {
     match sound.meta(db) {
-        Meta::Btree(meta) => tree_pairs(alloc, sound.linked(), meta),
-        Meta::Hash(meta) => table_pairs(alloc, sound.linked(), meta),
+        Meta::Btree(meta) => tree_pairs(alloc, sound.linked(), meta, beside),
+        Meta::Hash(meta) => table_pairs(alloc, sound.linked(), meta, beside),
         Meta::Queue(_) => scanned_pairs(alloc, sound, db),
     }
 }
 
-// A database as a section with its list.
-fn base_section(alloc: Global, sound: &Sound<'_>, db: Db) -> Result<Section, AllocError>
+// A database as a section without its pairs.
+fn bare_section(alloc: Global, sound: &Sound<'_>, db: Db) -> Result<Section, AllocError>
     requires { db < length (databases (file_of sound.now)) }
-    ensures { IfOk result (λ section. section ≡ base_section sound.now (database_at (file_of sound.now) db)) }
+    ensures { IfOk result (λ section. section ≡ bare (base_section sound.now (database_at (file_of sound.now) db))) }
 {
-    let name = copied_name(alloc, sound.name(db))?;
-    let pairs = base_pairs(alloc, sound, db)?;
     Ok(Section {
-        name,
+        name: copied_name(alloc, sound.name(db))?,
         settings: sound.settings(db),
         header_line: 0,
-        pairs,
+        pairs: TextPairs::new(alloc),
     })
 }
 
 // All databases, in their order.
-fn base_sections(alloc: Global, sound: &Sound<'_>) -> Result<Sections, AllocError>
-    ensures { IfOk result (λ all. all ≡ map (base_section sound.now) (databases (file_of sound.now))) }
+fn bare_sections(alloc: Global, sound: &Sound<'_>) -> Result<Sections, AllocError>
+    ensures { IfOk result (λ all. all ≡ map bare (map (base_section sound.now) (databases (file_of sound.now)))) }
 {
     let mut all = Sections::new(alloc);
     for i in 0..sound.databases() {
-        all.push(base_section(alloc, sound, sound.database(i))?)?;
+        all.push(bare_section(alloc, sound, sound.database(i))?)?;
     }
     Ok(all)
 }
@@ -98,11 +105,11 @@ fn has_master(sound: &Sound<'_>) -> bool
     }
 }
 
-// The base that a sound file is.
-fn sound_base(alloc: Global, sound: &Sound<'_>) -> Result<Base, AllocError>
-    ensures { IfOk result (λ base. base ≡ base_of sound.now) }
+/// The base that a sound file is, without the pairs of its databases.
+pub(crate) fn bare_base(alloc: Global, sound: &Sound<'_>) -> Result<Base, AllocError>
+    ensures { IfOk result (λ base. base ≡ bare_of (base_of sound.now)) }
 {
-    let databases = base_sections(alloc, sound)?;
+    let databases = bare_sections(alloc, sound)?;
     let head = sound.head();
     Ok(Base {
         master: has_master(sound),
@@ -112,38 +119,56 @@ fn sound_base(alloc: Global, sound: &Sound<'_>) -> Result<Base, AllocError>
     })
 }
 
-// The base that a sound file is, which is given up.
-fn taken_base(alloc: Global, sound: Sound<'_>) -> Result<Base, AllocError>
-    ensures { IfOk result (λ base. base ≡ base_of sound.entry) }
+// The name of a section, lent.
+fn lent_name(section: &Section) -> Option<&[u8]>
+    ensures { option_copied result ≡ section.now.name }
 {
-    sound_base(alloc, &sound)
-}
-
-// The base that these bytes are.
-fn base_in<L: Ledger>(alloc: Global, image: &[u8], steps: &mut Steps<L>) -> Result<Base, FirstError>
-    requires small { length image.now ≤ 2 ^ 30 }
-    ensures base { IfOk result (λ base. IsBaseOf image.now base) }
-    ensures sound { OnOk result (verdict_of image.now ≡ None) }
-    ensures refused { IfErr result (IsFirstRefusal (faults_of image.now)) }
-{
-    let sound = sound_by::<First, L>(alloc, image, steps)?;
-    match taken_base(alloc, sound) {
-        Ok(base) => Ok(base),
-        Err(_) => Err(FirstError::Memory),
+    match &section.name {
+        Some(name) => Some(name.as_slice()),
+        None => None,
     }
 }
 
-/// The base that a sound image is: its databases with their lists. `Fault` is the first row that holds, an unsupported case among them; `Memory`
-/// means that memory ran out. A key is copied once for all its data, and each datum once. The image is dropped.
-pub fn base_of<L: Ledger>(
+// The pairs of a database, but for those that a section replaces.
+fn pairs_beside(
     alloc: Global,
-    image: Image,
-    steps: &mut Steps<L>,
-) -> Result<Base, FirstError>
-    requires small { length image ≤ 2 ^ 30 }
-    ensures base { IfOk result (λ base. IsBaseOf image base) }
-    ensures sound { OnOk result (verdict_of image ≡ None) }
-    ensures refused { IfErr result (IsFirstRefusal (faults_of image)) }
+    sound: &Sound<'_>,
+    db: Db,
+    section: &Section,
+) -> Result<TextPairs, AllocError>
+    requires { db < length (databases (file_of sound.now)) }
+    ensures { IfOk result (AreEnough section.now.settings section.now.pairs
+        (map text_pair (list_of (file_of sound.now) (database_at (file_of sound.now) db).fields))) }
 {
-    base_in(alloc, image.bytes(), steps)
+    let beside = Beside::of(alloc, section.settings, section.pairs.as_slice())?;
+    base_pairs(alloc, sound, db, &beside)
+}
+
+/// The pairs of the database of a base that a section is loaded onto, but for those that the section replaces; none where there is no such database.
+pub(crate) fn partner_pairs(
+    alloc: Global,
+    sound: &Sound<'_>,
+    section: &Section,
+) -> Result<TextPairs, AllocError>
+    ensures { IfOk result (AreEnough section.now.settings section.now.pairs (pairs_from (partner_of (base_of sound.now) section.now))) }
+{
+    match sound.by_name(lent_name(section)) {
+        Some(db) => pairs_beside(alloc, sound, db, section),
+        None => Ok(TextPairs::new(alloc)),
+    }
+}
+
+/// A sound file as what a text is loaded onto. `Fault` is the first row that holds, an unsupported case among them; `Memory` means that memory ran out.
+pub fn open_base<'a, L: Ledger>(
+    alloc: Global,
+    image: &'a [u8],
+    steps: &mut Steps<L>,
+) -> Result<Sound<'a>, FirstError>
+    requires small { length image.now ≤ 2 ^ 30 }
+    ensures same { IfOk result (λ sound. sound ≡ image.now) }
+    ensures base { OnOk result (IsBase (base_of image.now)) }
+    ensures sound { OnOk result (verdict_of image.now ≡ None) }
+    ensures refused { IfErr result (IsFirstRefusal (faults_of image.now)) }
+{
+    sound_by::<First, L>(alloc, image, steps)
 }

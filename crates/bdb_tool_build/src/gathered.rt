@@ -13,11 +13,15 @@ ghost use Rattle.bdb_ranks.specs.of_overflow.Held.{FitsHeld, chain_value, value_
 ghost use Rattle.bdb_ranks.specs.of_tree.Entries.{values_of};
 ghost use Rattle.bdb_text_format.specs.of_places.Places.{span_in};
 ghost use Rattle.bdb_text_format.specs.Terms.{HasChains, IsKeyPlaced, IsPiecePut, IsSpanOf, Keeps};
-ghost use Rattle.bdb_tool_build.specs.Gathered.{Adds, Grows, HasKey};
+ghost use Rattle.bdb_onto.specs.Replaced.{IsReplaced};
+ghost use Rattle.bdb_text_format.specs.Terms.{slice_seen};
+ghost use Rattle.bdb_text_format.specs.declared.pairs.Key.TheVariants.{Bytes};
+ghost use Rattle.bdb_tool_build.specs.Gathered.{Adds, AddsEnough, Grows, HasKey, with_key};
 
 use crate::on_leaf::{BesideEntries, OnLeaf};
 use bdb_file::{DupBlocks, HashItem, TablePair, bytes_in};
-use bdb_model::TextPairs;
+use bdb_model::{KeyRef, TextPairs};
+use bdb_onto::Beside;
 use bdb_ranks::{Forest, Held, LeafItem, Pair, is_deleted, leaf_held, tree_entries};
 use bdb_text_format::{Gathered, PlacedKey, Span};
 use std::alloc::{AllocError, Global};
@@ -60,6 +64,33 @@ fn put_chain(
     let value = Held::Chained(head).datum(forest);
     let bytes = bytes_in(value, room)?;
     pairs.put_chain(head, bytes)
+}
+
+// Whether the datum of an item is a chain. Others are copied even where a section replaces them: together they have no more bytes than their pages.
+fn is_chained(item: &LeafItem<'_>) -> bool {
+    match item {
+        LeafItem::Overflow { .. } => true,
+        LeafItem::Inline { .. } | LeafItem::Duplicates { .. } => false,
+    }
+}
+
+// Whether a section replaces the pairs of a key, whose bytes are joined in a room.
+fn is_key_replaced<'a>(
+    forest: &Forest<'a>,
+    key: Held<'a>,
+    room: &mut Vec<u8>,
+    beside: &Beside<'_>,
+) -> Result<bool, AllocError>
+    requires { FitsHeld (file_of forest.now) key }
+    ensures { IfOk result (λ is. is ≡ true
+        → IsReplaced beside.now.settings (slice_seen beside.now.pairs) (Bytes (value_held (file_of forest.now) key.entry))) }
+{
+    if beside.is_idle() {
+        return Ok(false);
+    }
+    let value = key.datum(forest);
+    let bytes = bytes_in(value, room)?;
+    Ok(beside.replaces(KeyRef::Bytes(bytes)))
 }
 
 #[tactic(auto, using(crate::proofs::GatheredLemmas::in_hand))]
@@ -216,18 +247,22 @@ impl<'a> Gatherer<'a> {
         }
     }
 
-    /// Adds a record with its number, the next item of a leaf, unless it's deleted.
+    /// Adds a record with its number, the next item of a leaf, unless it's deleted or a section replaces it.
     pub(crate) fn push_record(
         &mut self,
         number: u32,
         entry: &LeafItem<'a>,
         leaf: &mut OnLeaf<'_>,
+        beside: &Beside<'_>,
     ) -> Result<(), AllocError>
         requires { FitsContent (file_of self.old.image) (leaf_item_seen entry.now).content }
         ensures image { OnOk result (self.new.image ≡ self.old.image) }
-        ensures pairs { OnOk result (self.new.gathered.pairs
-            ≡ self.old.gathered.pairs ++ map text_pair (listed_entry (file_of self.old.image) (number, leaf_item_seen entry.now))) }
+        ensures pairs { OnOk result (AddsEnough beside.now self.old.gathered.pairs self.new.gathered.pairs
+            (map text_pair (listed_entry (file_of self.old.image) (number, leaf_item_seen entry.now)))) }
     {
+        if beside.replaces(KeyRef::Number(number)) {
+            return Ok(());
+        }
         self.push_entry(PlacedKey::Number(number), entry, leaf)?;
         Ok(())
     }
@@ -250,12 +285,59 @@ impl<'a> Gatherer<'a> {
         }
     }
 
-    /// Adds a stored pair, the next two items of a leaf, of which it passes the first: its key with each of its data. Answers where the key stands.
+    // Whether a section replaces the pairs of a key, whose datum may be a chain.
+    fn is_replaced(
+        &mut self,
+        key: Held<'a>,
+        is_chained: bool,
+        beside: &Beside<'_>,
+    ) -> Result<bool, AllocError>
+        requires { FitsHeld (file_of self.old.image) key }
+        ensures same { self.new ≡ self.old }
+        ensures ok { IfOk result (λ is. is ≡ true
+            → IsReplaced beside.now.settings (slice_seen beside.now.pairs) (Bytes (value_held (file_of self.old.image) key.entry))) }
+    {
+        if !is_chained {
+            return Ok(false);
+        }
+        is_key_replaced(&self.forest, key, &mut self.room, beside)
+    }
+
+    // Adds a key with the data of a data item, the next one of a leaf, unless a section replaces them.
+    fn push_data_beside(
+        &mut self,
+        key: PlacedKey,
+        held: Held<'a>,
+        item: &LeafItem<'a>,
+        leaf: &mut OnLeaf<'_>,
+        beside: &Beside<'_>,
+    ) -> Result<(), AllocError>
+        requires held { FitsHeld (file_of self.old.image) held }
+        requires has { HasKey self.old (value_held (file_of self.old.image) held) key }
+        requires content { FitsContent (file_of self.old.image) (leaf_item_seen item.now).content }
+        requires set { FitsSet (file_of self.old.image) (leaf_item_seen item.now).content }
+        requires stage { structure_faults (file_of self.old.image) ≡ [] }
+        ensures image { OnOk result (self.new.image ≡ self.old.image) }
+        ensures key { OnOk result (HasKey self.new (value_held (file_of self.old.image) held.entry) key) }
+        ensures pairs { OnOk result (AddsEnough beside.now self.old.gathered.pairs self.new.gathered.pairs
+            (with_key (Bytes (value_held (file_of self.old.image) held.entry)) (data_of (file_of self.old.image) (leaf_item_seen item.now).content))) }
+    {
+        let replaced = self.is_replaced(held, is_chained(item), beside)?;
+        if replaced {
+            return Ok(());
+        }
+        self.push_data(key, item, leaf)?;
+        Ok(())
+    }
+
+    /// Adds a stored pair, the next two items of a leaf, of which it passes the first: its key with each of its data, unless a section replaces them. Answers
+    /// where the key stands.
     pub(crate) fn push_pair(
         &mut self,
         last: Option<PlacedKey>,
         pair: &Pair<LeafItem<'a>>,
         leaf: &mut OnLeaf<'_>,
+        beside: &Beside<'_>,
     ) -> Result<PlacedKey, AllocError>
         requires fits { FitsContent (file_of self.old.image) (leaf_item_seen pair.now.key).content }
         requires content { FitsContent (file_of self.old.image) (leaf_item_seen pair.now.value).content }
@@ -263,15 +345,17 @@ impl<'a> Gatherer<'a> {
         requires stage { structure_faults (file_of self.old.image) ≡ [] }
         requires last { pair.now.shares ≡ true → IfSome last (HasKey self.old (value_of (file_of self.old.image) (leaf_item_seen pair.now.key).content)) }
         ensures image { OnOk result (self.new.image ≡ self.old.image) }
-        ensures pairs { OnOk result (self.new.gathered.pairs
-            ≡ self.old.gathered.pairs ++ map text_pair (listed_pair (file_of self.old.image) (stored_pair (file_of self.old.image) 0 (view_seen leaf_item_seen pair.now)))) }
+        ensures pairs { OnOk result (AddsEnough beside.now self.old.gathered.pairs self.new.gathered.pairs
+            (map text_pair (listed_pair (file_of self.old.image) (stored_pair (file_of self.old.image) 0 (view_seen leaf_item_seen pair.now))))) }
         ensures key { IfOk result (HasKey self.new (value_of (file_of self.old.image) (leaf_item_seen pair.now.key).content)) }
     {
         let key = self.key_of(last, pair, leaf)?;
         leaf.step();
-        if !is_deleted(&pair.value) {
-            self.push_data(key, &pair.value, leaf)?;
+        if is_deleted(&pair.value) {
+            return Ok(key);
         }
+        let held = leaf_held(&pair.key);
+        self.push_data_beside(key, held, &pair.value, leaf, beside)?;
         Ok(key)
     }
 
@@ -321,8 +405,8 @@ impl<'a> Gatherer<'a> {
         Ok(PlacedKey::Bytes(self.held_span(held)?))
     }
 
-    /// Adds a pair of a hash: its key with each of its data.
-    pub(crate) fn push_table_pair(&mut self, pair: TablePair<'a>) -> Result<(), AllocError>
+    // Adds a pair of a hash: its key with each of its data.
+    fn push_whole_pair(&mut self, pair: TablePair<'a>) -> Result<(), AllocError>
         requires { pair.image ≡ self.old.image }
         ensures image { OnOk result (self.new.image ≡ self.old.image) }
         ensures pairs { OnOk result (self.new.gathered.pairs ≡ self.old.gathered.pairs ++ map text_pair (listed_told pair.entry)) }
@@ -331,6 +415,25 @@ impl<'a> Gatherer<'a> {
         let key = self.put_key(held)?;
         let item = pair.into_item();
         self.push_item(key, item)?;
+        Ok(())
+    }
+
+    /// Adds a pair of a hash: its key with each of its data, unless a section replaces them.
+    pub(crate) fn push_table_pair(
+        &mut self,
+        pair: TablePair<'a>,
+        beside: &Beside<'_>,
+    ) -> Result<(), AllocError>
+        requires { pair.image ≡ self.old.image }
+        ensures image { OnOk result (self.new.image ≡ self.old.image) }
+        ensures pairs { OnOk result (AddsEnough beside.now self.old.gathered.pairs self.new.gathered.pairs (map text_pair (listed_told pair.entry))) }
+    {
+        let held = pair.held_key();
+        let replaced = self.is_replaced(held, true, beside)?;
+        if replaced {
+            return Ok(());
+        }
+        self.push_whole_pair(pair)?;
         Ok(())
     }
 

@@ -6,16 +6,16 @@ mod copied;
 mod gathered;
 mod loading;
 mod on_leaf;
+mod onto;
 mod refusal;
 mod table;
 mod texts;
 mod tree;
 mod trial;
 
-pub use base::base_of;
+pub use base::open_base;
 pub use bdb_file::{Db, Rows, Scan, Sound, verify};
 pub use bdb_gen::generate;
-pub use bdb_onto::Base;
 pub use loading::{load_text, load_text_onto};
 pub use refusal::Refusal;
 pub use texts::image_too_large_line;

@@ -4,17 +4,19 @@ ghost use Rattle.bdb_model.specs.Answers.{done, told};
 ghost use Rattle.bdb_model.specs.of_text_format.Terms.{Reads, text_fault};
 ghost use Rattle.bdb_onto.specs.of_mkfile.Loading.{AreLoadable, loading_error};
 ghost use Rattle.bdb_tool_build.specs.Lines.{image_too_large_line};
-ghost use Rattle.bdb_onto.specs.Bases.{IsBase};
+ghost use Rattle.bdb_onto.specs.Bases.{IsBase, base_of};
 ghost use Rattle.bdb_onto.specs.Onto.{loading_error_onto};
 ghost use Rattle.bdb_tool_build.specs.Ontos.{IsLoadOnto, IsTextOnto};
 ghost use Rattle.bdb_tool_build.specs.Loads.{IsErrorAnswer, IsFaultAnswer, IsLoadAnswer, IsTextAnswer};
 ghost use Rattle.bdb_tool_build.specs.Refusals.{IsRefusedAnswer, Says};
 
+use crate::onto::image_onto;
 use crate::refusal::Refusal;
 use crate::texts::{error_line, image_too_large_line, reason_line};
+use bdb_file::Sound;
 use bdb_io::Image;
 use bdb_model::{Sections, TextFault};
-use bdb_onto::{Base, LoadError, TextError, load, load_onto, read_dump};
+use bdb_onto::{LoadError, TextError, load, read_dump};
 use std::alloc::{AllocError, Global};
 
 // A line of why a text isn't loaded, where there is memory for it.
@@ -81,17 +83,17 @@ fn load_sections(alloc: Global, sections: Sections, limit: u32) -> Result<Image,
 // The image of sections that can be loaded, on a base.
 fn load_sections_onto(
     alloc: Global,
-    base: Base,
+    sound: &Sound<'_>,
     sections: Sections,
     limit: u32,
 ) -> Result<Image, Refusal>
     requires limit { limit ≤ 2 ^ 30 }
-    requires base { IsBase base }
+    requires base { IsBase (base_of sound.now) }
     requires fit { AreLoadable sections }
-    ensures { MatchResult result (λ image. IsLoadOnto limit (loading_error_onto limit base sections) base sections (done image))
-        (IsRefusedAnswer (IsLoadOnto limit (loading_error_onto limit base sections) base sections)) }
+    ensures { MatchResult result (λ image. IsLoadOnto limit (loading_error_onto limit (base_of sound.now) sections) (base_of sound.now) sections (done image))
+        (IsRefusedAnswer (IsLoadOnto limit (loading_error_onto limit (base_of sound.now) sections) (base_of sound.now) sections)) }
 {
-    match load_onto(alloc, base, sections, u64::from(limit)) {
+    match image_onto(alloc, sound, sections, u64::from(limit)) {
         Ok(image) => Ok(image),
         Err(error) => Err(refusal_of(alloc, error, limit)),
     }
@@ -109,14 +111,21 @@ pub fn load_text(alloc: Global, text: Image, limit: u32) -> Result<Image, Refusa
     load_sections(alloc, sections, limit)
 }
 
-/// A sound file of at most `limit` bytes with the databases of a base and the sections of a dump text loaded onto them, as `load_onto` builds it. It
-/// is refused as `load_text` is, with the load errors of the sections on the base. The text is dropped as soon as it is read.
-pub fn load_text_onto(alloc: Global, text: Image, base: Base, limit: u32) -> Result<Image, Refusal>
+/// A sound file of at most `limit` bytes with the databases of a base and the sections of a dump text loaded onto them, as `load_onto` of `bdb_onto` builds it.
+/// It is refused as `load_text` is, with the load errors of the sections on the base. The text is dropped as soon as it is read. The databases of the base are
+/// copied out of it one at a time: where they share a chain, that is copied for each, until the lists of them have more than `limit` bytes.
+pub fn load_text_onto(
+    alloc: Global,
+    text: Image,
+    sound: &Sound<'_>,
+    limit: u32,
+) -> Result<Image, Refusal>
     requires text { length text ≤ 2 ^ 30 }
     requires limit { limit ≤ 2 ^ 30 }
-    requires base { IsBase base }
-    ensures { MatchResult result (λ image. IsTextOnto limit base text (done image)) (IsRefusedAnswer (IsTextOnto limit base text)) }
+    requires base { IsBase (base_of sound.now) }
+    ensures { MatchResult result (λ image. IsTextOnto limit (base_of sound.now) text (done image))
+        (IsRefusedAnswer (IsTextOnto limit (base_of sound.now) text)) }
 {
     let sections = sections_of(alloc, text)?;
-    load_sections_onto(alloc, base, sections, limit)
+    load_sections_onto(alloc, sound, sections, limit)
 }

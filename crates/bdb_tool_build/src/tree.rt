@@ -5,23 +5,25 @@ ghost use Rattle.bdb_model.specs.of_format.Terms.{BtreeFields, btree_list, file_
 ghost use Rattle.bdb_file.specs.of_image.Linked.{FitsLeafPage, HasMetadata, IsForest};
 ghost use Rattle.bdb_onto.specs.Bases.{text_pair};
 ghost use Rattle.bdb_tool_build.specs.Copied.{Follow};
+ghost use Rattle.bdb_tool_build.specs.Gathered.{AddsEnough, IsEnough};
 
 use crate::gathered::Gatherer;
 use crate::on_leaf::{BesideEntries, OnLeaf};
 use bdb_file::{Linked, tree_leaves};
 use bdb_model::{BtreeMeta, TextPairs};
+use bdb_onto::Beside;
 use bdb_ranks::{PageView, tree_entries};
 use std::alloc::{AllocError, Global};
 
-// Adds the pairs of a leaf.
-fn push_leaf(page: u32, all: &mut Gatherer<'_>) -> Result<(), AllocError>
+// Adds the pairs of a leaf, but for those that a section replaces.
+fn push_leaf(page: u32, all: &mut Gatherer<'_>, beside: &Beside<'_>) -> Result<(), AllocError>
     requires forest { IsForest all.old.image }
     requires page { FitsLeafPage (file_of all.old.image) page }
     requires keys { Follow (pairs_of (file_of all.old.image) page) }
     requires stage { structure_faults (file_of all.old.image) ≡ [] }
     ensures image { OnOk result (all.new.image ≡ all.old.image) }
-    ensures pairs { OnOk result (all.new.gathered.pairs
-        ≡ all.old.gathered.pairs ++ map text_pair (flat_map (listed_pair (file_of all.old.image)) (pairs_of (file_of all.old.image) page))) }
+    ensures pairs { OnOk result (AddsEnough beside.now all.old.gathered.pairs all.new.gathered.pairs
+        (map text_pair (flat_map (listed_pair (file_of all.old.image)) (pairs_of (file_of all.old.image) page)))) }
 {
     let forest = all.forest();
     let view = forest.page(page);
@@ -32,7 +34,7 @@ fn push_leaf(page: u32, all: &mut Gatherer<'_>) -> Result<(), AllocError>
     let mut on = OnLeaf::of(&forest, page);
     let mut last = None;
     while let Some(pair) = pairs.next() {
-        last = Some(all.push_pair(last, &pair, &mut on)?);
+        last = Some(all.push_pair(last, &pair, &mut on, beside)?);
         on.step();
     }
     Ok(())
@@ -43,16 +45,17 @@ fn btree_pairs(
     alloc: Global,
     linked: &Linked<'_>,
     meta: &BtreeMeta,
+    beside: &Beside<'_>,
 ) -> Result<TextPairs, AllocError>
     requires meta { HasMetadata (file_of linked.now) (BtreeFields meta.now) }
     requires stage { structure_faults (file_of linked.now) ≡ [] }
-    ensures { IfOk result (λ pairs. pairs ≡ map text_pair (btree_list (file_of linked.now) meta.now.root)) }
+    ensures { IfOk result (IsEnough beside.now (map text_pair (btree_list (file_of linked.now) meta.now.root))) }
 {
     let forest = linked.forest();
     let mut leaves = tree_leaves(&forest, linked.root(meta).number());
     let mut all = Gatherer::new(alloc, forest)?;
     while let Some(leaf) = leaves.next() {
-        push_leaf(leaf.number(), &mut all)?;
+        push_leaf(leaf.number(), &mut all, beside)?;
     }
     Ok(all.into_pairs())
 }
@@ -78,37 +81,39 @@ fn recno_pairs(
     alloc: Global,
     linked: &Linked<'_>,
     meta: &BtreeMeta,
+    beside: &Beside<'_>,
 ) -> Result<TextPairs, AllocError>
     requires meta { HasMetadata (file_of linked.now) (BtreeFields meta.now) }
     requires stage { structure_faults (file_of linked.now) ≡ [] }
-    ensures { IfOk result (λ pairs. pairs ≡ map text_pair (recno_list (file_of linked.now) meta.now.root)) }
+    ensures { IfOk result (IsEnough beside.now (map text_pair (recno_list (file_of linked.now) meta.now.root))) }
 {
     let forest = linked.forest();
     let mut entries = tree_entries(&forest, linked.root(meta).number());
     let mut all = Gatherer::new(alloc, forest)?;
-    let mut beside = beside_entries(linked, meta);
+    let mut walk = beside_entries(linked, meta);
     let mut number: u32 = 0;
     while let Some(entry) = entries.next() {
         number = number_after(number)?;
-        beside.turn();
-        all.push_record(number, &entry, &mut beside.leaf)?;
+        walk.turn();
+        all.push_record(number, &entry, &mut walk.leaf, beside)?;
     }
     Ok(all.into_pairs())
 }
 
-/// The pairs of a tree with this metadata, as if they stood in a text without numbers of lines.
+/// The pairs of a tree with this metadata, as if they stood in a text without numbers of lines, but for those that a section replaces.
 pub(crate) fn tree_pairs(
     alloc: Global,
     linked: &Linked<'_>,
     meta: &BtreeMeta,
+    beside: &Beside<'_>,
 ) -> Result<TextPairs, AllocError>
     requires meta { HasMetadata (file_of linked.now) (BtreeFields meta.now) }
     requires stage { structure_faults (file_of linked.now) ≡ [] }
-    ensures { IfOk result (λ pairs. pairs ≡ map text_pair (list_of (file_of linked.now) (BtreeFields meta.now))) }
+    ensures { IfOk result (IsEnough beside.now (map text_pair (list_of (file_of linked.now) (BtreeFields meta.now)))) }
 {
     if meta.is_recno() {
-        recno_pairs(alloc, linked, meta)
+        recno_pairs(alloc, linked, meta, beside)
     } else {
-        btree_pairs(alloc, linked, meta)
+        btree_pairs(alloc, linked, meta, beside)
     }
 }

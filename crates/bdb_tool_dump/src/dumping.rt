@@ -8,8 +8,8 @@ ghost use Rattle.bdb_tool_print.specs.of_text_format.Terms.{data_end, database_t
 ghost use Rattle.bdb_tool_print.specs.Printers.{Adds, pair_text};
 ghost use Rattle.bdb_tool_print.specs.of_tool_lines.Printing.{Writes};
 
-use bdb_databases::{Bytes, Db, Readable, Scan};
-use bdb_tool_print::{Cut, Printer, Sink};
+use bdb_databases::{Db, Readable, Scan};
+use bdb_tool_print::{Cut, Printer, Sink, print_to};
 use std::alloc::Global;
 
 /// Prints the data lines of a list.
@@ -90,14 +90,7 @@ pub fn write_section<K: Sink>(
     requires { db < length (databases (file_of readable.now)) }
     ensures { Writes (database_text print readable.now (database_at (file_of readable.now) db)) (change K.written K.faults out.old out.new) result }
 {
-    let mut pending = Bytes::new(alloc);
-    let mut printer = Printer {
-        alloc,
-        out,
-        pending: &mut pending,
-    };
-    database_section(&mut printer, readable, db, print)?;
-    printer.flush()
+    print_to!(alloc, out, printer => database_section(&mut printer, readable, db, print)?)
 }
 
 /// Writes the section of each database. An error means that a write failed, or that memory ran out.
@@ -110,12 +103,5 @@ pub fn write_sections<K: Sink>(
 ) -> Result<(), Cut>
     ensures { Writes (dump_text print readable.now (databases (file_of readable.now))) (change K.written K.faults out.old out.new) result }
 {
-    let mut pending = Bytes::new(alloc);
-    let mut printer = Printer {
-        alloc,
-        out,
-        pending: &mut pending,
-    };
-    sections(&mut printer, readable, print)?;
-    printer.flush()
+    print_to!(alloc, out, printer => sections(&mut printer, readable, print)?)
 }

@@ -7,8 +7,8 @@ ghost use Rattle.bdb_databases.specs.of_overflow.Datum.{datum_seen};
 ghost use Rattle.bdb_tool_print.specs.Printers.{Adds};
 ghost use Rattle.bdb_tool_print.specs.of_tool_lines.Printing.{Writes};
 
-use bdb_databases::{Bytes, Datum, Found, Readable};
-use bdb_tool_print::{Cut, Printer, Sink};
+use bdb_databases::{Datum, Found, Readable};
+use bdb_tool_print::{Cut, Printer, Sink, print_to};
 use std::alloc::Global;
 
 /// Prints the line of each database.
@@ -69,14 +69,7 @@ fn found<K: Sink>(
 pub fn write_list<K: Sink>(alloc: Global, out: &mut K, readable: &Readable<'_>) -> Result<(), Cut>
     ensures { Writes (list_text (databases (file_of readable.now))) (change K.written K.faults out.old out.new) result }
 {
-    let mut pending = Bytes::new(alloc);
-    let mut printer = Printer {
-        alloc,
-        out,
-        pending: &mut pending,
-    };
-    database_lines(&mut printer, readable)?;
-    printer.flush()
+    print_to!(alloc, out, printer => database_lines(&mut printer, readable)?)
 }
 
 /// Writes the data of a key, each on a line, printed or else spelled by digits. An error means that a write failed, or that memory ran out.
@@ -90,12 +83,5 @@ pub fn write_found<K: Sink>(
 ) -> Result<(), Cut>
     ensures { Writes (value_line print (datum_seen first.entry) ++ values_text print others.entry) (change K.written K.faults out.old out.new) result }
 {
-    let mut pending = Bytes::new(alloc);
-    let mut printer = Printer {
-        alloc,
-        out,
-        pending: &mut pending,
-    };
-    found(&mut printer, first, others, print)?;
-    printer.flush()
+    print_to!(alloc, out, printer => found(&mut printer, first, others, print)?)
 }

@@ -10,10 +10,11 @@ ghost use Rattle.bdb_damage.specs.of_rescue.Text.{bytes_pair, loose_section, loo
 ghost use Rattle.bdb_damage.specs.of_apart.Given.{pairs_left, records_left};
 ghost use Rattle.bdb_damage.specs.of_apart.Text.{apart_text, db_section, list_given, rest_text};
 
+use crate::print_to;
 use crate::printing::Printer;
 use crate::salvaging::{loose_settings, stored_settings};
 use bdb_damage::{Apart, Database, Databases, Pairs, PairsLeft, Records, RecordsLeft, bytes_in};
-use bdb_range::{Bytes, Datum, KeyView, Settings};
+use bdb_range::{Datum, KeyView, Settings};
 use bdb_tool_lines::{Cut, Sink};
 use std::alloc::Global;
 
@@ -213,14 +214,7 @@ pub fn write_apart<K: Sink>(
 ) -> Result<(), Cut>
     ensures { Writes (apart_text print apart.now.guess apart.now.image) (change K.written K.faults out.old out.new) result }
 {
-    let mut pending = Bytes::new(alloc);
-    let mut printer = Printer {
-        alloc,
-        out,
-        pending: &mut pending,
-    };
-    printer.apart(apart, print)?;
-    printer.flush()
+    print_to!(alloc, out, printer => printer.apart(apart, print)?)
 }
 
 /// Writes what `salvage --rest` gives, the pairs and records that belong to no database that is found: the section `salvaged` and, if there are such
@@ -235,12 +229,5 @@ pub fn write_rest<K: Sink>(
 ) -> Result<(), Cut>
     ensures { Writes (rest_text print apart.now.guess apart.now.image) (change K.written K.faults out.old out.new) result }
 {
-    let mut pending = Bytes::new(alloc);
-    let mut printer = Printer {
-        alloc,
-        out,
-        pending: &mut pending,
-    };
-    printer.rest(apart, print)?;
-    printer.flush()
+    print_to!(alloc, out, printer => printer.rest(apart, print)?)
 }

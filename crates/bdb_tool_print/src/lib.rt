@@ -10,7 +10,7 @@ mod salvaging;
 mod surveying;
 
 pub use aparting::{write_apart, write_rest};
-pub use bdb_range::{RangePairs, pairs_of, span};
+pub use bdb_range::{Bytes, RangePairs, pairs_of, span};
 pub use bdb_text::{SpellError, read_spelling};
 pub use bdb_tool_lines::{
     Cut, Sink, put, refuse, report, status, tell, tell_case, tell_list, tell_memory,

@@ -21,6 +21,21 @@ pub struct Printer<'k, K: Sink> {
     pub pending: &'k mut Bytes,
 }
 
+/// Prints lines to a sink by a printer, and then writes what is pending of them. A `?` behind the lines ends the function where they aren't printed.
+#[macro_export]
+macro_rules! print_to {
+    ($alloc:expr, $out:expr, $printer:ident => $lines:expr) => {{
+        let mut pending = $crate::Bytes::new($alloc);
+        let mut $printer = $crate::Printer {
+            alloc: $alloc,
+            out: $out,
+            pending: &mut pending,
+        };
+        $lines;
+        $printer.flush()
+    }};
+}
+
 impl<'k, K: Sink> Printer<'k, K> {
     /// Writes what is pending, and then nothing is. An error is a write that failed.
     pub fn flush(&mut self) -> Result<(), Cut>

@@ -8,8 +8,9 @@ ghost use Rattle.bdb_tool_print.specs.Printers.{Adds};
 ghost use Rattle.bdb_tool_lines.specs.Printing.{Writes};
 ghost use Rattle.std.specs.Fmt.{decimal};
 
+use crate::print_to;
 use crate::printing::Printer;
-use bdb_range::{Bytes, Datum, KeyView, RangePairs};
+use bdb_range::{Datum, KeyView, RangePairs};
 use bdb_text::number_text;
 use bdb_tool_lines::{Cut, Sink};
 use std::alloc::Global;
@@ -79,12 +80,5 @@ pub fn write_pairs<K: Sink>(
 ) -> Result<(), Cut>
     ensures { Writes (pairs_text print pairs.entry) (change K.written K.faults out.old out.new) result }
 {
-    let mut pending = Bytes::new(alloc);
-    let mut printer = Printer {
-        alloc,
-        out,
-        pending: &mut pending,
-    };
-    printer.pairs_text(pairs, print)?;
-    printer.flush()
+    print_to!(alloc, out, printer => printer.pairs_text(pairs, print)?)
 }

@@ -11,9 +11,10 @@ ghost use Rattle.bdb_damage.specs.of_rescue.Text.{stored_section, stored_setting
 ghost use Rattle.bdb_damage.specs.of_rescue.Kept.{file_in};
 ghost use Rattle.bdb_damage.specs.of_survey.Salvage.{loose};
 
+use crate::print_to;
 use crate::printing::Printer;
 use bdb_damage::{Guess, SalvagePairs, SalvageValues, Salvaged};
-use bdb_range::{Bytes, Datum, KeyView, Kind, Settings, plain_settings};
+use bdb_range::{Datum, KeyView, Kind, Settings, plain_settings};
 use bdb_tool_lines::{Cut, Sink};
 use std::alloc::Global;
 
@@ -160,12 +161,5 @@ pub fn write_salvaged<K: Sink>(
     requires { length salvaged.now.image ≤ 2 ^ 30 }
     ensures { Writes (salvage_text print salvaged.now.guess salvaged.now.image) (change K.written K.faults out.old out.new) result }
 {
-    let mut pending = Bytes::new(alloc);
-    let mut printer = Printer {
-        alloc,
-        out,
-        pending: &mut pending,
-    };
-    printer.salvaged(salvaged, print)?;
-    printer.flush()
+    print_to!(alloc, out, printer => printer.salvaged(salvaged, print)?)
 }

@@ -15,13 +15,14 @@ ghost use Rattle.bdb_tool_print.specs.Printers.{Adds};
 ghost use Rattle.bdb_tool_print.specs.Survey.{case_text, figure, figure_line, figures, figures_line, found_line, found_lines, named_line, number_line};
 ghost use Rattle.bdb_tool_print.specs.Survey.{page_figures, page_lines, refused_line, row_text, survey_text};
 
+use crate::print_to;
 use crate::printing::Printer;
 use bdb_damage::{
     Apart, Database, Databases, Named, RefusedPages, RenumberedPages, Unsupported, cut_bytes,
     given_count, lost_count, page_count, refused_pages, renumbered_pages, rest_pairs, rest_records,
     zero_count,
 };
-use bdb_range::{Bytes, Datum};
+use bdb_range::Datum;
 use bdb_text::kind_word;
 use bdb_tool_lines::{Cut, Sink, case_name};
 use std::alloc::{AllocError, Global};
@@ -354,12 +355,5 @@ pub fn write_survey<K: Sink>(
 ) -> Result<(), Cut>
     ensures { Writes (survey_text case apart.now) (change K.written K.faults out.old out.new) result }
 {
-    let mut pending = Bytes::new(alloc);
-    let mut printer = Printer {
-        alloc,
-        out,
-        pending: &mut pending,
-    };
-    printer.survey(apart, case)?;
-    printer.flush()
+    print_to!(alloc, out, printer => printer.survey(apart, case)?)
 }

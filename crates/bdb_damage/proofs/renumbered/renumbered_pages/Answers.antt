@@ -4,4 +4,6 @@ use Rattle.bdb_damage.proofs.WalkLemmas.{all_renumbered}
 use Rattle.bdb_damage.proofs.renumbered.renumbered_pages.Goals as goal
 
 pub returns : goal.returns
-returns c = ap (λ r. renumbered_from r 0) c.salvaged-salvaged.ensures ∙ all_renumbered c.args.apart.now
+returns c =
+    ap (λ r. renumbered_from r c.of.result.page) (c.of.ensures.salvaged ∙ c.salvaged.ensures)
+    ∙ (ap (renumbered_from c.args.apart.now) c.of.ensures.page ∙ all_renumbered c.args.apart.now)

@@ -45,7 +45,7 @@ loop-placed-preserved c =
     subst (λ all. IsJoinedTo base c.args.sections c.take_at-partner.new.places.items all rest) (sym more)
     (subst (λ left. IsJoinedTo base c.args.sections left (c.loop-placed.all
     ++ (behind base.page_size base.order (taken_at places placed.place) placed.section ∷ [])) rest)
-    (sym c.take_at-partner.ensures.left) (one_more base c.args.sections places c.loop-placed.all placed rest c.requires.base c.requires.apart to))
+    (sym c.take_at-partner.ensures.left) (one_more base c.args.sections places c.loop-placed.all placed rest c.requires.names c.requires.apart to))
 
 pub returns : goal.returns
 returns c =

@@ -1,7 +1,7 @@
 use Rattle.std.proofs.Common.{arith, ◌∙◌, ap, sym, is_some}
 use Rattle.std.proofs.lemmas.Bool.Decides.{nat_tests}
 use Rattle.bdb_onto.proofs.ErrorLemmas.{same_of}
-use Rattle.bdb_onto.proofs.SearchLemmas.{all_named, first_place, names_rise, no_place}
+use Rattle.bdb_onto.proofs.SearchLemmas.{all_named, first_place, no_place}
 use Rattle.bdb_onto.proofs.partners.place_of.Goals as goal
 
 pub returns-then-is_misnamed : goal.returns-then-is_misnamed
@@ -9,7 +9,7 @@ returns-then-is_misnamed c = no_place c.args.base.now c.args.section.now c.requi
 
 pub place_named-requires-clause-rise : goal.place_named-requires-clause-rise
 place_named-requires-clause-rise c =
-    names_rise c.args.base.now c.requires
+    c.requires.rise
     (sym (same_of (is_some c.args.section.now.name) c.args.base.now.master (sym c.is_misnamed.ensures ∙ c.if-is_misnamed.false)) ∙ ap is_some c.in-Some.is)
 
 pub place_named-requires-clause-named : goal.place_named-requires-clause-named

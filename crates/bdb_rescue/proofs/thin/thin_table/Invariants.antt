@@ -1,11 +1,6 @@
-use Rattle.std.specs.Prelude.{◌≡◌, ◌+◌, length, map}
-use Rattle.std.specs.List.{range_with_len}
-use Rattle.bdb_rescue.specs.Kept.{below, thin_from}
+use Rattle.bdb_rescue.specs.Kept.{IsTable, thin_from}
 use Rattle.bdb_rescue.proofs.thin.thin_table.Given as goal
 
 -- The bytes of chains that begin below a page, and the bounds up to it.
 abbrev pub invariant-loop-page : goal.invariant-loop-page
-invariant-loop-page l = record {
-  bytes : l.bytes.items ≡ below (thin_from l.survey) l.page;
-  bounds : l.bounds.items ≡ map (λ p. length (below (thin_from l.survey) p)) (range_with_len 0 (l.page + 1));
-}
+invariant-loop-page l = IsTable (thin_from l.survey) l.page l.thin.bounds.items l.thin.all.items

@@ -8,7 +8,8 @@ use Rattle.bdb_ranks.specs.of_form.Pairs.{pair_seen as view_seen}
 use Rattle.bdb_ranks.specs.of_form.Seen.{page_seen}
 use Rattle.bdb_ranks.specs.of_layout.Seen.{leaf_item_seen}
 use Rattle.bdb_tool_build.specs.Copied.{ShareKeys}
-use Rattle.bdb_tool_build.specs.Gathered.{HasKey}
+use Rattle.bdb_tool_build.specs.Gathered.{AreListing, HasKey}
+use Rattle.bdb_tool_build.proofs.EnoughLemmas.{adds_all, listing_begins, listing_ends}
 use Rattle.bdb_tool_build.proofs.TreeLemmas.{leaf_fit, pair_more}
 use Rattle.bdb_tool_build.proofs.tree.push_leaf.Goals as goal
 
@@ -24,9 +25,11 @@ returns-in_default c =
     c.page-view.ensures.page ∙ ap (λ (i : List ℕ). page_at (file_of i) c.args.page) c.forest-forest.ensures in
     record {
       image = refl;
-      pairs = sym (ap (λ (found : List StoredPair). c.args.all.now.gathered.pairs ++ map text_pair (flat_map (listed_pair (file_of image)) found))
+      pairs = adds_all c.args.beside.now c.args.all.now.gathered.pairs c.args.all.now.gathered.pairs
+          (map text_pair (flat_map (listed_pair (file_of image)) (pairs_of (file_of image) c.args.page)))
+          (sym (ap (λ (found : List StoredPair). c.args.all.now.gathered.pairs ++ map text_pair (flat_map (listed_pair (file_of image)) found))
           (sym (no_pairs image c.args.page c.page-view.result c.requires.forest c.requires.page seen c.in_default.not-Leaf))
-          ∙ append-nil c.args.all.now.gathered.pairs);
+          ∙ append-nil c.args.all.now.gathered.pairs));
     }
 
 pub loop-pair-init : goal.loop-pair-init
@@ -39,7 +42,9 @@ loop-pair-init c =
     ap (map (stored_pair file c.args.page)) c.iter-pairs.ensures ∙ view_pairs file c.args.page c.in-Leaf.leaf leaf in
     record {
       image = refl;
-      pairs = ap (λ (found : List StoredPair). c.args.all.now.gathered.pairs ++ map text_pair (flat_map (listed_pair file) found)) (sym are);
+      pairs = subst (λ (found : List StoredPair). AreListing c.args.beside.now c.args.all.now.gathered.pairs c.args.all.now.gathered.pairs
+          (map text_pair (flat_map (listed_pair file) (pairs_of file c.args.page))) (map text_pair (flat_map (listed_pair file) found))) (sym are)
+          (listing_begins c.args.beside.now c.args.all.now.gathered.pairs (map text_pair (flat_map (listed_pair file) (pairs_of file c.args.page))));
       keys = subst (KeysFit file) (sym c.iter-pairs.ensures) (keys_fit image c.args.page c.in-Leaf.leaf c.requires.forest c.requires.page leaf);
       fit = subst (AreFit file) (sym are) (leaf_fit image c.args.page c.requires.forest c.requires.page);
       key = c.requires.keys.key;
@@ -54,8 +59,8 @@ loop-pair-preserved c =
     let pair = view_seen leaf_item_seen c.in-Some.pair in
     record {
       image = c.in_ok-push_pair.ensures.image ∙ c.loop-pair.invariant.image;
-      pairs = pair_more image c.loop-pair.all.image _ c.loop-pair.all.gathered.pairs c.push_pair.new.self.gathered.pairs c.args.page c.loop-pair.pairs
-          c.next.new.self pair c.loop-pair.invariant.image c.in-Some.ensures.steps c.loop-pair.invariant.pairs c.in_ok-push_pair.ensures.pairs;
+      pairs = pair_more c.args.beside.now image c.loop-pair.all.image c.args.all.now.gathered.pairs _ c.loop-pair.all.gathered.pairs
+          c.push_pair.new.self.gathered.pairs c.args.page c.loop-pair.pairs c.next.new.self pair c.loop-pair.invariant.image c.in-Some.ensures.steps c.loop-pair.invariant.pairs c.in_ok-push_pair.ensures.pairs;
       keys = (subst (KeysFit file) c.in-Some.ensures.steps c.loop-pair.invariant.keys).1;
       fit = (subst (λ found. AreFit file (map (stored_pair file c.args.page) found)) c.in-Some.ensures.steps c.loop-pair.invariant.fit).1;
       key = value_of file pair.key.content;
@@ -64,3 +69,11 @@ loop-pair-preserved c =
       last = subst (λ (i : List ℕ). HasKey c.push_pair.new.self (value_of (file_of i) pair.key.content) c.in_ok-push_pair.field-0) c.loop-pair.invariant.image
           c.in_ok-push_pair.ensures.key;
     }
+
+pub returns-clause-pairs : goal.returns-clause-pairs
+returns-clause-pairs c =
+    let file : File = file_of c.args.all.now.image in
+    listing_ends c.args.beside.now c.args.all.now.gathered.pairs c.loop-pair.all.gathered.pairs
+    (map text_pair (flat_map (listed_pair file) (pairs_of file c.args.page)))
+    (map text_pair (flat_map (listed_pair file) (map (stored_pair file c.args.page) c.loop-pair.pairs))) c.loop-pair.invariant.pairs
+    (ap (λ left. map text_pair (flat_map (listed_pair file) (map (stored_pair file c.args.page) left))) c.in_default-next.ensures.steps.0)

@@ -3,4 +3,4 @@ use Rattle.bdb_tool_print.proofs.PrinterLemmas.{all_written}
 use Rattle.bdb_tool_dump.proofs.listing.write_found.Goals as goal
 
 pub returns : goal.returns
-returns g c = all_written _ _ _ _ _ _ _ _ _ (search rules) c.new-pending.ensures c.in_ok-found.was c.found.ensures c.flush.ensures.prints c.flush.ensures.empty
+returns g c = all_written _ _ _ _ _ _ _ _ _ (search rules) (search rules) c.in_ok-found.was c.found.ensures c.print_to-2.ensures.prints c.print_to-2.ensures.empty

@@ -7,9 +7,9 @@ use Rattle.bdb_damage.proofs.renumbered.RenumberedPagesIterator.next.Given as go
 -- As much is left as at the beginning.
 abbrev pub invariant-walk : goal.invariant-walk
 invariant-walk l = record {
-  left : renumbered_from l.self-inside.salvaged.now l.self-inside.page ≡ renumbered_from l.initial.self-inside.salvaged.now l.initial.self-inside.page;
-  queue : l.self-inside.queue ≡ is_queue_file l.self-inside.salvaged.now;
+  left : renumbered_from l.self-inside.pages.salvaged.now l.self-inside.pages.page ≡ renumbered_from l.initial.self-inside.pages.salvaged.now l.initial.self-inside.pages.page;
+  queue : l.self-inside.pages.queue ≡ is_queue_file l.self-inside.pages.salvaged.now;
 }
 
 abbrev pub decreases-walk : goal.decreases-walk
-decreases-walk l = (file_in l.self-inside.salvaged.now).count - l.self-inside.page
+decreases-walk l = (file_in l.self-inside.pages.salvaged.now).count - l.self-inside.pages.page

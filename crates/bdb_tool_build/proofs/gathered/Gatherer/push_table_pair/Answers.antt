@@ -1,26 +1,31 @@
-use Rattle.std.proofs.Common.{◌≡◌, ◌∙◌, List, ℕ, ap, subst, sym}
-use Rattle.bdb_file.specs.of_buckets.Views.{IsPair}
-use Rattle.bdb_model.specs.of_format.Terms.{data_of, file_of}
-use Rattle.bdb_ranks.specs.of_layout.Seen.{hash_content_seen}
+use Rattle.std.proofs.Common.{◌≡◌, ◌++◌, ◌∙◌, List, ℕ, ap, map, subst, sym}
+use Rattle.bdb_file.specs.of_buckets.Told.{listed_told}
+use Rattle.bdb_model.specs.of_format.Terms.{file_of}
+use Rattle.bdb_onto.specs.Bases.{text_pair}
+use Rattle.bdb_onto.specs.Replaced.{IsReplaced}
 use Rattle.bdb_ranks.specs.of_overflow.Held.{FitsHeld, value_held}
-use Rattle.bdb_tool_build.specs.Gathered.{Adds, HasKey}
-use Rattle.bdb_tool_build.proofs.GatheredLemmas.{told_given}
+use Rattle.bdb_text_format.specs.Terms.{slice_seen}
+use Rattle.bdb_text_format.specs.declared.pairs.Key.TheVariants.{Bytes}
+use Rattle.bdb_tool_build.specs.Gathered.{ImageInHand}
+use Rattle.bdb_tool_build.proofs.EnoughLemmas.{adds_all, adds_none_stored}
 use Rattle.bdb_tool_build.proofs.gathered.Gatherer.push_table_pair.Goals as goal
 
-pub put_key-requires : goal.put_key-requires
-put_key-requires c = subst (λ (i : List ℕ). FitsHeld (file_of i) c.held_key-held.result) c.requires c.held_key-held.ensures.fits
+pub is_replaced-requires : goal.is_replaced-requires
+is_replaced-requires c = subst (λ (i : List ℕ). FitsHeld (file_of i) c.held_key-held.result) c.requires c.held_key-held.ensures.fits
 
-pub push_item-requires-clause-pair : goal.push_item-requires-clause-pair
-push_item-requires-clause-pair c =
-    subst (λ content. IsPair c.put_key.new.self.image content) (sym c.into_item-item.ensures.item)
-    (subst (λ (i : List ℕ). IsPair i c.args.pair.pair.data_item) (c.requires ∙ sym c.put_key.ensures.grows.image) c.into_item-item.ensures.pair)
+pub returns-then-replaced-clause-pairs : goal.returns-then-replaced-clause-pairs
+returns-then-replaced-clause-pairs c =
+    let key : value_held (file_of c.args.self.now.image) c.held_key-held.result ≡ c.args.pair.pair.key =
+    ap (λ (i : List ℕ). value_held (file_of i) c.held_key-held.result) (sym c.requires) ∙ c.held_key-held.ensures.value in
+    adds_none_stored c.args.beside.now c.args.self.now.gathered.pairs c.is_replaced.new.self.gathered.pairs (file_of c.args.pair.image) c.args.pair.pair
+    (ap (λ (it : ImageInHand). it.gathered.pairs) c.is_replaced.ensures.same)
+    (subst (λ bytes. IsReplaced c.args.beside.now.settings (slice_seen c.args.beside.now.pairs) (Bytes bytes)) key
+    (c.in_ok-replaced.ensures.ok c.if-replaced.true))
+
+pub push_whole_pair-requires : goal.push_whole_pair-requires
+push_whole_pair-requires c = c.requires ∙ sym (ap (λ (it : ImageInHand). it.image) c.is_replaced.ensures.same)
 
 pub returns-clause-pairs : goal.returns-clause-pairs
 returns-clause-pairs c =
-    let same : c.args.pair.image ≡ c.put_key.new.self.image = c.requires ∙ sym c.put_key.ensures.grows.image in
-    told_given c.args.self.now c.put_key.new.self c.push_item.new.self c.in_ok-key.key c.args.pair c.requires c.put_key.ensures.grows
-    (subst (λ bytes. HasKey c.put_key.new.self bytes c.in_ok-key.key)
-    (ap (λ (i : List ℕ). value_held (file_of i) c.held_key-held.result) (sym c.requires) ∙ c.held_key-held.ensures.value) c.in_ok-key.ensures.ok)
-    (subst (λ content. Adds c.put_key.new.self c.push_item.new.self c.in_ok-key.key (data_of (file_of c.args.pair.image) content)) c.into_item-item.ensures.item
-    (subst (λ (i : List ℕ). Adds c.put_key.new.self c.push_item.new.self c.in_ok-key.key (data_of (file_of i) (hash_content_seen c.into_item-item.result)))
-    (sym same) c.in_ok-push_item.ensures)) c.into_item-item.ensures.listed
+    adds_all c.args.beside.now c.args.self.now.gathered.pairs c.push_whole_pair.new.self.gathered.pairs (map text_pair (listed_told c.args.pair))
+    (c.in_ok-push_whole_pair.ensures.pairs ∙ ap (λ (it : ImageInHand). it.gathered.pairs ++ map text_pair (listed_told c.args.pair)) c.is_replaced.ensures.same)

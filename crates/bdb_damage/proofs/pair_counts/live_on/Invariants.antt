@@ -2,7 +2,7 @@ use Rattle.std.proofs.Common.{◌≡◌, ◌≤◌, cond}
 use Rattle.std.specs.List.{range_with_len, sum_by}
 use Rattle.bdb_apart.specs.of_survey.Slots.{slots_seen}
 use Rattle.bdb_damage.specs.Tallies.{is_live_pair}
-use Rattle.bdb_damage.proofs.pair_counts.live_among.Given as goal
+use Rattle.bdb_damage.proofs.pair_counts.live_on.Given as goal
 
 -- The live pairs so far are counted.
 abbrev pub invariant-loop-index : goal.invariant-loop-index
