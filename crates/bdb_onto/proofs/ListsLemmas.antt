@@ -114,18 +114,18 @@ bytes_more size lists list =
     ∙ add-mul (sum_by (section_pages size) (map filled_section lists)) (section_pages size (filled_section list)) size
 
 -- the bytes so far and those of the pages of one more list are those of all of them
-pub list_counted : (size taken pages now : ℕ) (lists : List Section) (section : Section) (own : List TextPair) → section.settings.page_size ≡ size
+pub list_counted : (size taken pages : ℕ) (lists : List Section) (section : Section) (own : List TextPair) → section.settings.page_size ≡ size
     → own ≡ map unnumbered (ordered section.settings section.pairs)
     → pages ≡ section_pages section.settings.page_size (filled_section (alone section.settings own))
-    → taken ≤ list_bytes size lists → now ≤ taken + pages * size
-    → now ≤ list_bytes size (lists ++ ordered_section section ∷ [])
-list_counted size taken pages now lists section own sized is counted so_far sum =
+    → taken ≡ list_bytes size lists → taken + pages * size ≡ list_bytes size (lists ++ ordered_section section ∷ [])
+list_counted size taken pages lists section own sized is counted so_far =
     let here : pages ≡ section_pages size (filled_section (ordered_section section)) =
     counted
     ∙ ap (λ (n : ℕ). section_pages n (filled_section (alone section.settings own))) sized
     ∙ ap (λ (ps : List TextPair). section_pages size (filled_section (alone section.settings ps))) is in
-    let same : pages * size ≡ section_pages size (filled_section (ordered_section section)) * size = ap (λ n. n * size) here in
-    omega (arith, bytes_more size lists (ordered_section section), same, so_far, sum)
+    ap (λ n. n + pages * size) so_far
+    ∙ ap (λ n. list_bytes size lists + n * size) here
+    ∙ sym (bytes_more size lists (ordered_section section))
 
 -- All sections that are joined can be counted.
 

@@ -1,5 +1,5 @@
 //! The databases of a file one by one, each as its list, as long as their pages have no more bytes than there may be.
-ghost use Rattle.std.specs.Prelude.{◌≡◌, ◌++◌, ◌∷◌, ◌<◌, ◌≤◌, ◌+◌, ◌*◌, [], IfErr, IfOk, OnOk, length, map, nat_lt, true};
+ghost use Rattle.std.specs.Prelude.{◌≡◌, ◌++◌, ◌∷◌, ◌<◌, ◌≤◌, ◌+◌, ◌*◌, [], IfErr, IfOk, MatchOption, OnOk, length, map, nat_lt, true};
 ghost use Rattle.std.specs.List.{list_all};
 ghost use Rattle.bdb_mkfile.specs.Lengths.{is_short_pair};
 ghost use Rattle.bdb_mkfile.specs.of_need.Need.{AreSettled, section_pages};
@@ -7,7 +7,7 @@ ghost use Rattle.bdb_mkfile.specs.of_settle.Loaded.{filled_section, ordered, ord
 ghost use Rattle.bdb_mkfile.specs.of_text_format.declared.sections.Section.{Section as ASection};
 ghost use Rattle.bdb_mkfile.specs.of_text_format.Terms.{slice_seen};
 ghost use Rattle.bdb_onto.specs.Bare.{with_before};
-ghost use Rattle.bdb_onto.specs.Lists.{IsCountable, IsListRefusal, alone};
+ghost use Rattle.bdb_onto.specs.Lists.{IsCountable, IsListRefusal, alone, list_bytes};
 
 use crate::joining::{copied_length, pairs_of_both};
 use bdb_format::Settings;
@@ -98,11 +98,17 @@ fn counted(alloc: Global, settings: Settings, list: TextPairs) -> Result<Counted
     })
 }
 
-// How many bytes there are with these pages; no more than a number has room for.
-fn bytes_with(taken: u128, pages: u128, page_size: u32) -> u128
-    ensures { result ≤ taken + pages * page_size }
+// How many bytes there are with these pages; `None` where there may not be as many.
+fn bytes_with(taken: u128, pages: u128, page_size: u32, max: u64) -> Option<u128>
+    ensures { MatchOption result (max < taken + pages * page_size) (λ bytes. (bytes ≡ taken + pages * page_size) × (bytes ≤ max)) }
 {
-    taken.saturating_add(pages.saturating_mul(u128::from(page_size)))
+    let bytes = pages
+        .checked_mul(u128::from(page_size))?
+        .checked_add(taken)?;
+    if u128::from(max) < bytes {
+        return None;
+    }
+    Some(bytes)
 }
 
 /// The databases of a file in the making, each with its list. Their runs have no bytes that their lists don't have, and their pages no more than the file may.
@@ -115,14 +121,14 @@ pub struct Lists {
 }
 
 impl Model for Lists {
-    ghost use Rattle.std.specs.Prelude.{◌≤◌};
+    ghost use Rattle.std.specs.Prelude.{◌≡◌};
     ghost use Rattle.bdb_onto.specs.Lists.{Listing, list_bytes};
 
     ghost Value = { Listing };
 
     ghost view = { λ it. record { page_size = it.page_size; max = it.max; lists = it.lists } };
 
-    ghost invariant = { λ it. it.taken ≤ list_bytes it.page_size it.lists };
+    ghost invariant = { λ it. it.taken ≡ list_bytes it.page_size it.lists };
 }
 
 impl Lists {
@@ -150,6 +156,7 @@ impl Lists {
         ensures page_size { self.new.page_size ≡ self.old.page_size }
         ensures max { self.new.max ≡ self.old.max }
         ensures ok { OnOk result (self.new.lists ≡ self.old.lists ++ ordered_section (with_before before section) ∷ []) }
+        ensures within { OnOk result (list_bytes self.old.page_size (self.old.lists ++ ordered_section (with_before before section) ∷ []) ≤ self.old.max) }
         ensures refused { IfErr result (IsListRefusal self.old.page_size self.old.max (self.old.lists ++ ordered_section (with_before before section) ∷ [])) }
     {
         let Section {
@@ -162,10 +169,9 @@ impl Lists {
         let list = list_of(alloc, settings, pairs)?;
         let own = own_run(alloc, list)?;
         let it = counted(alloc, settings, own)?;
-        let taken = bytes_with(self.taken, it.pages, self.page_size);
-        if u128::from(self.max) < taken {
+        let Some(taken) = bytes_with(self.taken, it.pages, self.page_size, self.max) else {
             return Err(LoadError::TooLarge);
-        }
+        };
         self.lists.push(Section {
             name,
             settings,
