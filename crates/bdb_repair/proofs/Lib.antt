@@ -13,6 +13,7 @@ pub mod FoundNameLemmas
 pub mod GivenFitLemmas
 pub mod ApartLemmas
 pub mod ApartRoomLemmas
+pub mod ClaimLemmas
 pub use Rattle.bdb_law_kept.proofs.of_any_order as of_any_order
 pub use Rattle.bdb_law_kept.proofs.of_databases as of_databases
 pub use Rattle.bdb_model.proofs.of_format as of_format

@@ -1,5 +1,6 @@
 pub mod Apart
 pub mod ApartRoom
+pub mod Claims
 pub mod Laws
 pub mod Parts
 pub mod Reads

@@ -1,20 +1,22 @@
 //! `repair --apart`: a sound file of the databases that are found.
-ghost use Rattle.std.specs.Prelude.{◌≡◌, ◌++◌, ◌∷◌, ◌≤◌, ◌^◌, [], IfOk, IfSome, IsTrue, OnOk, Some, length, map, option_map};
+ghost use Rattle.std.specs.Prelude.{◌≡◌, ◌++◌, ◌∷◌, ◌+◌, ◌≤◌, ◌^◌, [], IfOk, IfSome, IsTrue, OnOk, Some, length, map, option_map};
 ghost use Rattle.bdb_mkfile.specs.NamedImages.{HasBuiltTables};
 ghost use Rattle.bdb_model.specs.of_format.Terms.{is_page_size};
 ghost use Rattle.bdb_repair.specs.Apart.{IsRepairedApart, section_in, sections_in, told_settings};
+ghost use Rattle.bdb_repair.specs.Claims.{claim_pages};
 ghost use Rattle.bdb_rescue.specs.Guesses.{chosen};
 ghost use Rattle.bdb_rescue.specs.of_overflow.Datum.{datum_seen};
 
 use crate::RepairError;
 use crate::apart_room::are_past;
 use crate::repairing::answer_of;
+use crate::salvaging::salvage_uncounted;
 use bdb_apart::{Apart, Database, Databases, Datum, Settings, apart_of};
 use bdb_io::Image;
 use bdb_law_kept::shows_length;
 use bdb_mkfile::load;
 use bdb_model::{Bytes, Section, Sections, Steps};
-use bdb_rescue::{Guess, salvage};
+use bdb_rescue::Guess;
 use std::alloc::{AllocError, Global};
 use std::sync::ledger::Ledger;
 
@@ -88,7 +90,8 @@ fn sections_in(alloc: Global, apart: &Apart<'_, '_>) -> Result<Sections, AllocEr
 /// A sound file of at most `max` bytes with the databases that are found in an image, by the given guess or else that of page 0: each with its name,
 /// its kind, its settings and what is salvaged of it. `NoMeta` without a guess, or where no database is found; `TooLarge` exactly where the file
 /// would have more bytes; or memory ran out. If the data of btrees and hashes in which none may replace another have more bytes by themselves,
-/// nothing is copied.
+/// nothing is copied. `steps` counts the pages whose references are read for claims: each whole page at most once, and none without a guess.
+#[tactic(auto, using(crate::proofs::ClaimLemmas::claims_within))]
 pub fn repair_apart<L: Ledger>(
     alloc: Global,
     image: &[u8],
@@ -101,8 +104,9 @@ pub fn repair_apart<L: Ledger>(
     requires max { max ≤ 2 ^ 30 }
     ensures repaired { IsRepairedApart max (chosen guess image.now) image.now result }
     ensures tables { IfOk result (λ image. HasBuiltTables image) }
+    ensures cost { steps.new ≤ steps.old + claim_pages guess image.now }
 {
-    let salvaged = salvage(alloc, image, guess, steps)?;
+    let salvaged = salvage_uncounted(alloc, image, guess)?;
     let apart = apart_of(alloc, &salvaged, steps)?;
     if are_past(&apart, max) {
         return Err(RepairError::TooLarge);

@@ -8,6 +8,7 @@ pub mod laws;
 mod parts;
 mod repairing;
 mod room;
+mod salvaging;
 mod shape;
 
 pub use apart::repair_apart;
@@ -27,3 +28,4 @@ pub use bdb_rescue::{
 };
 pub use error::RepairError;
 pub use repairing::{repair, repair_as};
+pub use salvaging::salvage_uncounted;
