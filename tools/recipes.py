@@ -42,9 +42,8 @@ make others with the programs that own them, of Debian's packages `postfix`, `sa
 `squidguard`, `reprepro` and `libberkeleydb-perl`. No server runs, and `-C /dev/null` takes the place of sendmail's
 settings.
 
-Take care of `> NEW`: the shell makes that file, or empties it, before the program starts, whatever the status then is.
-So `NEW` must never be the file that is read. Let it take the place of that one, with its owner and mode, once the
-status was 0 and while the program that owns the file is stopped:
+`NEW` must never be the file that is read (DESCRIPTION in the manual page says why). It takes the place of that one,
+with its owner and mode, once the status was 0 and while the program that owns the file is stopped:
 
 ```sh
 chown --reference=OLD NEW && chmod --reference=OLD NEW && mv NEW OLD
