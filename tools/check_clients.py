@@ -197,7 +197,7 @@ class Uses:
 
     def summary(self):
         """The last lines. What is failed oftener in the uses that fail with db5.3_load's files too counts."""
-        yield f"{self.files} uses of files; {self.refused} texts refused by name"
+        yield f"{self.files} uses of files; {self.refused} texts not supported"
         if self.alike:
             yield f"{self.alike} uses aren't counted, which fail with db5.3_load's file too, or of which it builds none:"
             for when, ours, theirs in zip(("before", "after"), self.ours, self.theirs):

@@ -3,7 +3,8 @@
 
 - README.md has at most 120 lines, docs/CRATES.md 150, docs/BENCH.md 250 and docs/DECISIONS.md 300.
 - No line has more than 120 columns, but rows of tables and examples.
-- No run of 14 words stands in two places, but in examples, in tables of another program's answers and in those pages.
+- No run of 14 words stands in two places, but in examples and in pages that tools write. The manual page is read too,
+  without its synopsis.
 """
 
 import collections
@@ -15,18 +16,49 @@ TOP = pathlib.Path(__file__).resolve().parent.parent
 LINES = {"README.md": 120, "docs/CRATES.md": 150, "docs/BENCH.md": 250, "docs/DECISIONS.md": 300}
 COLUMNS = 120
 WORDS = 14
-# Pages that tools write of what ran, and of the definitions.
-WRITTEN = {"docs/CALLS.md", "docs/RECIPES.md", "docs/ORIGINAL.md", "docs/DEFINITIONS.md"}
+# Pages that tools write of the code, of the definitions and of both tools on the same files.
+WRITTEN = {"docs/CALLS.md", "docs/ORIGINAL.md", "docs/DEFINITIONS.md"}
+# Macros whose words are text: those of .B and .I with spaces between, those of the others without.
+FONTS = {"B", "I", "BR", "RB", "BI", "IB", "IR", "RI"}
+ESCAPES = {r"\-": "-", r"\e": "\\", r"\(aq": "'", r"\(lq": '"', r"\(rq": '"'}
 
 
 def documents():
     """The documents of the repository, but those of crates' samples."""
     found = [TOP / "README.md", TOP / "CONTRIBUTING.md", *sorted((TOP / "docs").glob("*.md"))]
+    found += [TOP / "samples/README.md", TOP / "real/README.md", TOP / "man/bdbtool.1"]
     return found + sorted((TOP / "crates").glob("*/README.md"))
+
+
+def unescaped(text):
+    """A line of roff without its changes of font, and with the characters that its escapes stand for."""
+    text = re.sub(r"\\f.", "", text)
+    for escape, character in ESCAPES.items():
+        text = text.replace(escape, character)
+    return text
+
+
+def pages(path):
+    """The lines of a manual page outside its synopsis and its examples, without macros, with their numbers."""
+    ends = ""
+    for number, line in enumerate(path.read_text(encoding="utf-8").splitlines(), 1):
+        macro, _, rest = line[1:].partition(" ") if line.startswith(".") else ("", "", line)
+        if ends:
+            ends = "" if line.startswith(ends) else ends
+        elif macro == "EX" or line == ".SH SYNOPSIS":
+            ends = ".EE" if macro == "EX" else ".SH"
+        elif macro in FONTS:
+            words = [quoted or word for quoted, word in re.findall(r'"([^"]*)"|(\S+)', rest)]
+            yield number, unescaped((" " if len(macro) == 1 else "").join(words))
+        elif not macro:
+            yield number, unescaped(line)
 
 
 def prose(path):
     """The lines outside examples, with their numbers."""
+    if path.suffix == ".1":
+        yield from pages(path)
+        return
     fenced = False
     for number, line in enumerate(path.read_text(encoding="utf-8").splitlines(), 1):
         if line.lstrip().startswith("```"):

@@ -360,7 +360,7 @@ def check_recipes(checks, prefix, env, program):
     folder = f"{prefix}/share/doc/bdbtool"
     recipes = recipes_of_page()
     found = sorted(os.listdir(folder))
-    checks.check("each recipe is installed", found == sorted([*recipes, "FAULTS.md", "RECIPES.md"]), found)
+    checks.check("each recipe is installed", found == sorted([*recipes, "FAULTS.md", "FORMAT.md", "RECIPES.md"]), found)
     for name, text in recipes.items():
         place = f"{folder}/{name}"
         checks.check(f"{name} is that of the page", os.access(place, os.X_OK) and read(place) == text)

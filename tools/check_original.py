@@ -400,7 +400,7 @@ def main():
         converted, turned = check_converted(program, folder)
         based, joined = check_onto(program, folder)
         repaired, mended = check_repaired(program, folder)
-    print(f"{held} of {asked} hold; {refused} texts refused by name, {passed_over} dumps that the original can't load")
+    print(f"{held} of {asked} hold; {refused} texts not supported, {passed_over} dumps that the original can't load")
     print(f"{same} of {again} dumps are the same text, loaded and dumped")
     print(f"{turned} of {converted} files are the same in the other byte order")
     print(f"{joined} of {based} files with a text loaded onto them have the pairs that the original gives a copy")

@@ -49,7 +49,7 @@ def main():
             refused += refusal(text) is not None
         else:
             print(f"{file.name}: answered otherwise")
-    print(f"{held} of {len(files)} hold, {refused} of these refused by name")
+    print(f"{held} of {len(files)} hold, {refused} of these not supported")
     sys.exit(held != len(files))
 
 

@@ -1,6 +1,6 @@
 #!/bin/sh
 # install.sh PREFIX [PROGRAM]: puts the built program, or this one, under PREFIX, with its launcher, manual page,
-# recipes and completions, and tells each file. DESTDIR, where it is set, stands before each place.
+# documents, recipes and completions, and tells each file. DESTDIR, where it is set, stands before each place.
 
 usage() {
     echo "usage: tools/install.sh PREFIX [PROGRAM]" >&2
@@ -37,6 +37,7 @@ put 755 "$top/tools/bdbtool.sh" "$prefix/bin/bdbtool"
 put 644 "$top/man/bdbtool.1" "$prefix/share/man/man1/bdbtool.1"
 put 644 "$top/docs/FAULTS.md" "$documents/FAULTS.md"
 put 644 "$top/docs/RECIPES.md" "$documents/RECIPES.md"
+put 644 "$top/docs/FORMAT.md" "$documents/FORMAT.md"
 # A recipe has the name that its second line tells; the others only make the files on which recipes are tried.
 for recipe in "$top"/tools/recipes/*.sh; do
     name=$(sed -n '2s/^# \([a-z]*\.sh\) .*/\1/p' "$recipe")

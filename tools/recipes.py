@@ -32,18 +32,18 @@ NEEDED = {
 }
 HEAD = """# Recipes
 
-What an administrator does with the tool. Each recipe is a script of [tools/recipes](../tools/recipes) that was run:
-below it stand the commands with what they wrote. Then comes how it is done with the original's tools (`db5.3_verify`
-and the others of Debian's package `db5.3-util`) on the same files, and what differs.
+Scripts for administrators. Each recipe is a script of [tools/recipes](../tools/recipes) that was run; below it are the
+commands and what they wrote. Then the original's tools (`db5.3_verify` and the others of Debian's package `db5.3-util`)
+do the same on the same files, and a paragraph says what differs.
 
 `bdbtool` is on the PATH, as after `tools/install.sh`, which puts these scripts into PREFIX/share/doc/bdbtool.
-[files.sh](../tools/recipes/files.sh) makes the files, and so does [maps.sh](../tools/recipes/maps.sh) with the programs
-that own them, of Debian's packages `postfix`, `sasl2-bin`, `sendmail-bin` and `389-ds-base`. No server runs, and
-`-C /dev/null` stands for a sendmail that isn't set up.
+[files.sh](../tools/recipes/files.sh) makes the files. `maps.sh`, `orders.sh`, `owners.sh` and `killed.sh` beside it
+make others with the programs that own them, of Debian's packages `postfix`, `sasl2-bin`, `sendmail-bin`, `389-ds-base`,
+`squidguard`, `reprepro` and `libberkeleydb-perl`. No server runs, and `-C /dev/null` takes the place of sendmail's
+settings.
 
-Take care of `> NEW`: the shell makes that file, or empties it, before the program starts, whatever the status then is.
-So `NEW` must never be the file that is read. Let it take the place of that one, with its owner and mode, once the
-status was 0 and while the program that owns the file is stopped:
+`NEW` must never be the file that is read (DESCRIPTION in the manual page says why). It takes the place of that one,
+with its owner and mode, once the status was 0 and while the program that owns the file is stopped:
 
 ```sh
 chown --reference=OLD NEW && chmod --reference=OLD NEW && mv NEW OLD
