@@ -4,8 +4,9 @@
 usage: hostile.py [--largest FACTOR] [PROGRAM] [CLASS..]
 
 PROGRAM is the built program bdbtool; without it, crates/bdbtool/out/bdbtool. A CLASS is a word of the table CLASSES below, or else the beginning of some:
-`chain` has all classes of chains run alone. FACTOR makes each size of each class as many times as large as it is here (1, where none is given). The files and
-texts are made in a temporary folder by hostile_files.py and hostile_texts.py, always with the same contents.
+`chain` has all classes of chains run alone. The classes of the table GROWING run only where they are asked for so, and don't hold. FACTOR makes each size of
+each class as many times as large as it is here (1, where none is given). The files and texts are made in a temporary folder by hostile_files.py and
+hostile_texts.py, always with the same contents.
 
 Each command of a class runs on its four sizes, and what it writes is thrown away. Prints a Markdown table with a row for each class: the bytes of the largest
 size, and of each command the user and system seconds that it took there, and how they grew from each size to the next. A growth is for twice the size. The
@@ -223,6 +224,8 @@ CLASSES = (
     Class("queue-range", "a queue of all numbers, with few full pages", files.queue_range, 16_384, "", SOUND + (get("1"), get("4294967294", status=9))),
     Class("queue-range-zero", "such a queue of zero pages but for the last", files.queue_range_zero, 131_072, "", SOUND + (get("4294967294", status=9),)),
 )
+# Classes whose time grows by more, as docs/BENCH.md says. They run only where a word asks for them.
+GROWING = (Class("more-names", "names of a master are one chain, a quarter as many pages as names", files.full_chain_names, 8_000, "", SURVEYED + APART[::2]),)
 
 
 class Spent(typing.NamedTuple):
@@ -394,7 +397,8 @@ def print_class(program, kind, factor, folder):
 
 def asked_by(word):
     """The classes that a word asks for."""
-    return [kind for kind in CLASSES if kind.word == word] or [kind for kind in CLASSES if kind.word.startswith(word)]
+    kinds = CLASSES + GROWING
+    return [kind for kind in kinds if kind.word == word] or [kind for kind in kinds if kind.word.startswith(word)]
 
 
 def chosen(words):

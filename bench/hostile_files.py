@@ -912,6 +912,13 @@ def metadata_without_names(count):
     return image.btree(image.tree([(inline(b"a"), inline(b"b"))]))
 
 
+def full_chain_names(count):
+    """The names are one chain of full pages, of which there are a quarter as many as databases."""
+    image = Image()
+    name = long_item(image.chain([b"x" * ROOM] * (count // 4), counted(count)))
+    return image.master([(name, inline(target(page))) for page in databases(image, count)])
+
+
 def names_of_one_page(count):
     image = Image()
     databases(image, 1)

@@ -1,7 +1,7 @@
 #!/usr/bin/env python3
 """Times `bdbtool` beside the original library's tools, both in one run on the same files.
 
-usage: times.py verify|kinds|chains|range|dump|load|convert|stat|survey|salvage|repair [PROGRAM]
+usage: times.py verify|kinds|chains|range|dump|load|convert|stat|survey|salvage|repair|apart [PROGRAM]
        times.py before PROGRAM BEFORE
 
 PROGRAM is the built program; without it, crates/bdbtool/out/bdbtool. The files are made with `db5.3_load` in a temporary folder. Prints a
@@ -17,7 +17,8 @@ stands beside `verify` and a copy by `cat`, on a file of each kind, and `stat` b
 and of user and system time, of runs by turns. `salvage` stands beside `db5.3_dump -r`, on the files of `kinds`, and on each of them with
 every hundredth page overwritten by other bytes: seconds of user time, peak memory, and how many pairs or records each gives. `survey`
 stands beside `salvage --apart` on these files, and what both write is thrown away: user time, and the peak of `survey`. `repair`
-stands beside `salvage | load`, on the same files: user time of both commands of the pipe together, and the greater peak. `before` has
+stands beside `salvage | load`, on the same files: user time of both commands of the pipe together, and the greater peak. `apart` has
+`salvage --apart` beside `salvage`, and `repair --apart` beside `salvage --apart | load`, on the same files: user time. `before` has
 `verify` of two programs by turns, on the files of `kinds` and `chains` and on the files of `verify` that have a million pairs, and `dump`
 of both on the files of `dump`: the least user and system time of each, and their ratio. Where the program or the library's tools are
 missing, nothing is timed. docs/BENCH.md says how to read the tables.
@@ -619,10 +620,10 @@ REPAIR_COLUMNS = (
 )
 
 
-def piped(program, image):
-    """What `salvage | load` takes, both commands together: user time, and the greater peak; and how many bytes it writes."""
+def piped(program, image, *words):
+    """What `salvage | load` takes, `salvage` with these words, both commands together: user time, and the greater peak; and how many bytes it writes."""
     with image.open("rb") as given:
-        salvage = subprocess.Popen([program, "salvage"], stdin=given, stdout=subprocess.PIPE)
+        salvage = subprocess.Popen([program, "salvage", *words], stdin=given, stdout=subprocess.PIPE)
         load = subprocess.Popen([program, "load"], stdin=salvage.stdout, stdout=subprocess.PIPE)
         salvage.stdout.close()
         size = sum(len(piece) for piece in iter(lambda: load.stdout.read(1 << 20), b""))
@@ -677,6 +678,35 @@ def time_repair(program, folder):
         image.unlink()
 
 
+# `apart`
+APART_COLUMNS = ("File", "Bytes", "`salvage`", "`salvage --apart`", "Ratio", "`repair --apart`", "`salvage --apart \\| load`", "Ratio")
+
+
+def ratio_of(run, other):
+    """The user times of a run and of another, and their ratio; none where the other has no time."""
+    return [f"{run.user:.3g}", f"{other.user:.3g}", f"{run.user / max(other.user, 0.001):.3g}"] if other else [f"{run.user:.3g}", "–", "–"]
+
+
+def print_apart(name, program, image):
+    """A row of the table of `apart`. All run by turns, and the least of each counts. A pipe whose text is longer than an input may be has no time."""
+    commands = (["salvage"], ["salvage", "--apart"], ["repair", "--apart"])
+    rounds = [(*(spent([program, *words], image) for words in commands), piped(program, image, "--apart")[0]) for _ in range(BY_TURNS)]
+    whole, apart, repair = (min(column) for column in list(zip(*rounds))[:3])
+    pipe = min((it for *_, it in rounds if it), default=None)
+    both = ratio_of(apart, whole)
+    print_row([name, f"{image.stat().st_size:,}", both[1], both[0], both[2], *ratio_of(repair, pipe)])
+
+
+def time_apart(program, folder):
+    """The table of `apart`."""
+    print_head(APART_COLUMNS)
+    for name, image in kinds(folder):
+        print_apart(name, program, image)
+        damage(image)
+        print_apart(f"{name}, damaged", program, image)
+        image.unlink()
+
+
 def chains(folder):
     """A file with each chain, and one with free pages, one after another."""
     for pages in CHAINS:
@@ -727,6 +757,7 @@ TABLES = {
     "survey": ("db5.3_load", time_survey),
     "salvage": ("db5.3_dump", time_salvage),
     "repair": ("db5.3_load", time_repair),
+    "apart": ("db5.3_load", time_apart),
 }
 
 

@@ -29,6 +29,7 @@ NEEDED = {
     "squidGuard": "squidguard",
     "perl": "libberkeleydb-perl",
     "reprepro": "reprepro",
+    "onak": "onak",
 }
 HEAD = """# Recipes
 
@@ -39,8 +40,8 @@ do the same on the same files, and a paragraph says what differs.
 `bdbtool` is on the PATH, as after `tools/install.sh`, which puts these scripts into PREFIX/share/doc/bdbtool.
 [files.sh](../tools/recipes/files.sh) makes the files. `maps.sh`, `orders.sh`, `owners.sh` and `killed.sh` beside it
 make others with the programs that own them, of Debian's packages `postfix`, `sasl2-bin`, `sendmail-bin`, `389-ds-base`,
-`squidguard`, `reprepro` and `libberkeleydb-perl`. No server runs, and `-C /dev/null` takes the place of sendmail's
-settings.
+`squidguard`, `reprepro`, `onak` and `libberkeleydb-perl`. No server runs, and `-C /dev/null` takes the place of
+sendmail's settings.
 
 `NEW` must never be the file that is read (DESCRIPTION in the manual page says why). It takes the place of that one,
 with its owner and mode, once the status was 0 and while the program that owns the file is stopped:
