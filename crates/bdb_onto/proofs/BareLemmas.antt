@@ -1,11 +1,12 @@
 -- Sections on a base without its pairs: the same errors, and with the pairs of their partners the same sections.
 use Rattle.std.proofs.Common.{◌≡◌, Bool, true, false, cond, List, [], ◌∷◌, ◌++◌, length, map, Option, Some, None, refl, ◌∙◌, ap, subst, append-nil, inl, inr}
-use Rattle.std.proofs.Common.{◌==◌, is_some}
+use Rattle.std.proofs.Common.{◌==◌, ◌<◌, ℕ, arith, is_some, slice_get, suc, sym, true≢false, zero}
 use Rattle.std.specs.List.{Contains, filter, find, flat_map, fold}
 use Rattle.std.specs.Option.{option_map}
-use Rattle.std.proofs.lemmas.List.{map-append}
+use Rattle.std.proofs.lemmas.List.{length-map, map-append}
+use Rattle.bdb_format.proofs.ListLemmas.{member_of}
 use Rattle.bdb_format.proofs.MemberLemmas.{first_member, later_member, member_cases, no_member, of_map}
-use Rattle.bdb_format.specs.Terms.{Less}
+use Rattle.bdb_format.specs.Terms.{Less, is_name}
 use Rattle.bdb_mkfile.specs.Builds.{name_of}
 use Rattle.bdb_mkfile.specs.of_text_format.declared.pairs.TextPair.{TextPair}
 use Rattle.bdb_mkfile.specs.of_text_format.declared.sections.Section.{Section}
@@ -18,7 +19,8 @@ use Rattle.bdb_onto.specs.declared.base.Base.{Base}
 use Rattle.bdb_onto.specs.Bare.{bare, bare_of, with_partner}
 use Rattle.bdb_onto.specs.Onto.{in_base, is_left, is_misnamed, is_other, is_partner, joined, joined_section, onto_error, onto_errors, pairs_from}
 use Rattle.bdb_onto.specs.Onto.{partner_of, settings_from}
-use Rattle.bdb_onto.specs.Search.{Differs, HasNames}
+use Rattle.bdb_onto.specs.Search.{Differs, HasNames, IsPartnerAt, at_place}
+use Rattle.bdb_onto.proofs.JoinLemmas.{found_in}
 use Rattle.bdb_onto.proofs.JoiningLemmas.{own_name}
 
 -- Its names are those of the base.
@@ -42,6 +44,36 @@ bare_partner section (x ∷ xs) = by_test (is_partner section x) (bare_partner s
         → cond b (Some (bare x)) (find (is_partner section) (map bare xs)) ≡ option_map bare (cond b (Some x) (find (is_partner section) xs))
     by_test true later = refl
     by_test false later = later
+
+-- the database at a place where the bare one is a partner
+found_at : (section : Section) (all : List Section) (i : ℕ) → AllLater Differs all → i < length all
+    → slice_get (map bare all) i ≡ find (is_partner section) (map bare all) → slice_get all i ≡ find (is_partner section) all
+found_at section [] i apart within is = absurd (omega (arith, within))
+found_at section (x ∷ xs) zero apart within is =
+    let partner : is_partner section x ≡ true = (found_in (is_partner section) (map bare (x ∷ xs)) (bare x) (sym is)).1 in
+    sym (ap (λ b. cond b (Some x) (find (is_partner section) xs)) partner)
+found_at section (x ∷ xs) (suc i) apart within is =
+    by_test (is_partner section x) refl is (found_at section xs i apart.1 (omega (arith, within)))
+  where
+    by_test : (b : Bool) → is_partner section x ≡ b → slice_get (map bare xs) i ≡ cond b (Some (bare x)) (find (is_partner section) (map bare xs))
+        → (slice_get (map bare xs) i ≡ find (is_partner section) (map bare xs) → slice_get xs i ≡ find (is_partner section) xs)
+        → slice_get xs i ≡ cond (is_partner section x) (Some x) (find (is_partner section) xs)
+    by_test false other at later = later at ∙ sym (ap (λ b. cond b (Some x) (find (is_partner section) xs)) other)
+    by_test true partner at later =
+        let found = of_map bare xs (bare x) (member_of (map bare xs) i (bare x) at) in
+        let same : found.0.name ≡ x.name = ap (λ (s : Section). s.name) found.2 in
+        absurd (true≢false (sym (own_name x.name) ∙ (ap (λ n. is_name n x.name) (sym same) ∙ apart.0 found.0 found.1)))
+
+-- so it is the partner in the base itself
+pub partner_placed : (base : Base) (section : Section) (place : Option ℕ) → HasNames base → IsPartnerAt (bare_of base) section place
+    → at_place base.databases place ≡ partner_of base section
+partner_placed base section None names is = none (find (is_partner section) base.databases) (is.there ∙ bare_partner section base.databases)
+  where
+    none : (found : Option Section) → None ≡ option_map bare found → None ≡ found
+    none None at = refl
+    none (Some database) at = absurd (cc at)
+partner_placed base section (Some i) names is =
+    found_at section base.databases i names.differ (subst (λ n. i < n) (length-map base.databases bare) is.within) is.there
 
 -- Errors.
 

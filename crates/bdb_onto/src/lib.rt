@@ -16,3 +16,4 @@ pub use bdb_mkfile::{LoadError, in_name_order, load, need, settle};
 pub use beside::Beside;
 pub use lists::Lists;
 pub use onto::{join, load_lists, load_onto, settle_onto};
+pub use partners::place_of;

@@ -34,8 +34,9 @@ pub(crate) fn is_misnamed(base: &Base, section: &Section) -> bool
     section.name.is_some() != base.master
 }
 
-/// The place in a base of the database that a section is loaded onto, where there is one. Names ascend under a master; without one there is one database.
-pub(crate) fn place_of(base: &Base, section: &Section) -> Option<usize>
+/// The place in a base of the database that a section is loaded onto, where there is one, by halving: names ascend under a master, and without one there is one
+/// database.
+pub fn place_of(base: &Base, section: &Section) -> Option<usize>
     requires { HasNames base.now }
     ensures { IsPlaceOf base.now.databases (partner_of base.now section.now) result }
 {

@@ -14,7 +14,7 @@ use crate::table::table_pairs;
 use crate::tree::tree_pairs;
 use bdb_file::{Db, First, FirstError, Meta, Scan, Sound, sound_by};
 use bdb_model::{Bytes, Section, Sections, Steps, TextPairs};
-use bdb_onto::{Base, Beside};
+use bdb_onto::{Base, Beside, place_of};
 use std::alloc::{AllocError, Global};
 use std::sync::ledger::Ledger;
 
@@ -119,16 +119,6 @@ pub(crate) fn bare_base(alloc: Global, sound: &Sound<'_>) -> Result<Base, AllocE
     })
 }
 
-// The name of a section, lent.
-fn lent_name(section: &Section) -> Option<&[u8]>
-    ensures { option_copied result ≡ section.now.name }
-{
-    match &section.name {
-        Some(name) => Some(name.as_slice()),
-        None => None,
-    }
-}
-
 // The pairs of a database, but for those that a section replaces.
 fn pairs_beside(
     alloc: Global,
@@ -144,16 +134,29 @@ fn pairs_beside(
     base_pairs(alloc, sound, db, &beside)
 }
 
-/// The pairs of the database of a base that a section is loaded onto, but for those that the section replaces; none where there is no such database.
+// The database at a place.
+fn database_of(sound: &Sound<'_>, place: usize) -> Db
+    requires { place < length (databases (file_of sound.now)) }
+    ensures { result ≡ place }
+{
+    let count = sound.databases() as usize;
+    sound.database(place.min(count) as u32)
+}
+
+/// The pairs of the database of a sound file that a section is loaded onto, but for those that the section replaces; none where there is no such database. `base`
+/// is the file without pairs, in which the database is sought.
 pub(crate) fn partner_pairs(
     alloc: Global,
     sound: &Sound<'_>,
+    base: &Base,
     section: &Section,
 ) -> Result<TextPairs, AllocError>
+    requires is_base { IsBase (base_of sound.now) }
+    requires bare { base.now ≡ bare_of (base_of sound.now) }
     ensures { IfOk result (AreEnough section.now.settings section.now.pairs (pairs_from (partner_of (base_of sound.now) section.now))) }
 {
-    match sound.by_name(lent_name(section)) {
-        Some(db) => pairs_beside(alloc, sound, db, section),
+    match place_of(base, section) {
+        Some(place) => pairs_beside(alloc, sound, database_of(sound, place), section),
         None => Ok(TextPairs::new(alloc)),
     }
 }

@@ -1,7 +1,7 @@
 //! Sections that are loaded onto a sound file, whose databases are copied out of it one at a time.
 ghost use Rattle.std.specs.Prelude.{◌≡◌, ◌⊎◌, ◌≤◌, ◌^◌, IfErr, IfOk, None, OnOk, Some, map, reverse};
 ghost use Rattle.std.specs.List.{All};
-ghost use Rattle.bdb_onto.specs.Bare.{with_partner};
+ghost use Rattle.bdb_onto.specs.Bare.{bare_of, with_partner};
 ghost use Rattle.bdb_onto.specs.Bases.{IsBase, base_of};
 ghost use Rattle.bdb_onto.specs.Lists.{IsCountable, IsPartRefusal};
 ghost use Rattle.bdb_onto.specs.Onto.{BuildsOnto, loading_error_onto};
@@ -14,7 +14,7 @@ use crate::base::{bare_base, partner_pairs};
 use bdb_file::Sound;
 use bdb_io::Image;
 use bdb_model::{Section, Sections};
-use bdb_onto::{Lists, LoadError, join, load_lists};
+use bdb_onto::{Base, Lists, LoadError, join, load_lists};
 use std::alloc::{AllocError, Global};
 
 // Sections, the last one first.
@@ -34,18 +34,20 @@ fn backward(alloc: Global, sections: Sections) -> Result<Vec<Section>, AllocErro
 fn lists_onto(
     alloc: Global,
     sound: &Sound<'_>,
+    base: &Base,
     sections: Sections,
-    page_size: u32,
     max: u64,
 ) -> Result<Sections, LoadError>
-    requires { All (IsCountable page_size) (map (with_partner (base_of sound.now)) sections) }
+    requires is_base { IsBase (base_of sound.now) }
+    requires bare { base.now ≡ bare_of (base_of sound.now) }
+    requires countable { All (IsCountable base.now.page_size) (map (with_partner (base_of sound.now)) sections) }
     ensures lists { IfOk result (λ lists. lists ≡ map ordered_section (map (with_partner (base_of sound.now)) sections)) }
-    ensures refused { IfErr result (IsPartRefusal page_size max (map (with_partner (base_of sound.now)) sections)) }
+    ensures refused { IfErr result (IsPartRefusal base.now.page_size max (map (with_partner (base_of sound.now)) sections)) }
 {
     let mut left = backward(alloc, sections)?;
-    let mut lists = Lists::new(alloc, page_size, max);
+    let mut lists = Lists::new(alloc, base.page_size, max);
     while let Some(section) = left.pop() {
-        let before = partner_pairs(alloc, sound, &section)?;
+        let before = partner_pairs(alloc, sound, base, &section)?;
         lists.push(alloc, before, section)?;
     }
     Ok(lists.into_sections())
@@ -68,8 +70,8 @@ pub(crate) fn image_onto(
     ensures refused { IfErr result (λ error. (error ≡ Memory) ⊎ (loading_error_onto max (base_of sound.now) sections ≡ Some error)) }
 {
     let bare = bare_base(alloc, sound)?;
-    let page_size = bare.page_size;
     let joined = join(alloc, bare, sections)?;
-    let lists = lists_onto(alloc, sound, joined, page_size, max)?;
+    let base = bare_base(alloc, sound)?;
+    let lists = lists_onto(alloc, sound, &base, joined, max)?;
     load_lists(alloc, lists, max)
 }

@@ -14,13 +14,13 @@ use Rattle.bdb_tool_build.proofs.onto.image_onto.Goals as goal
 pub join-requires-clause-names : goal.join-requires-clause-names
 join-requires-clause-names c = names_of_bare (base_of c.args.sound.now) c.in_ok-bare.bare c.requires.base c.in_ok-bare.ensures
 
-pub lists_onto-requires : goal.lists_onto-requires
-lists_onto-requires c =
+pub lists_onto-requires-clause-countable : goal.lists_onto-requires-clause-countable
+lists_onto-requires-clause-countable c =
     let base = base_of c.args.sound.now in
     let loadable = bare_loadable base c.in_ok-bare.bare c.args.sections c.requires.base c.requires.fit c.in_ok-bare.ensures c.in_ok-joined.ensures.sound in
     let are : map (with_partner base) c.in_ok-joined.joined ≡ joined base c.args.sections =
     all_joined base c.in_ok-bare.bare c.args.sections c.in_ok-joined.joined c.requires.base c.in_ok-bare.ensures c.in_ok-joined.ensures.joined in
-    subst (λ (b : Base). All (IsCountable b.page_size) (map (with_partner base) c.in_ok-joined.joined)) (sym c.in_ok-bare.ensures)
+    subst (λ (b : Base). All (IsCountable b.page_size) (map (with_partner base) c.in_ok-joined.joined)) (sym c.in_ok-base.ensures)
     (subst (All (IsCountable base.page_size)) (sym are) (joined_countable base c.args.sections loadable))
 
 pub load_lists-requires-clause-lists : goal.load_lists-requires-clause-lists
@@ -50,7 +50,7 @@ returns-in_err-lists-clause-refused c =
     (found_onto c.args.max base c.args.sections error
     (list_refused c.args.max base c.args.sections (map (with_partner base) c.in_ok-joined.joined) error loadable none
     (all_joined base c.in_ok-bare.bare c.args.sections c.in_ok-joined.joined c.requires.base c.in_ok-bare.ensures c.in_ok-joined.ensures.joined)
-    (subst (λ (b : Base). IsPartRefusal b.page_size c.args.max (map (with_partner base) c.in_ok-joined.joined) error) c.in_ok-bare.ensures
+    (subst (λ (b : Base). IsPartRefusal b.page_size c.args.max (map (with_partner base) c.in_ok-joined.joined) error) c.in_ok-base.ensures
     c.in_err-lists.ensures.refused)))
 
 pub returns-clause-built : goal.returns-clause-built

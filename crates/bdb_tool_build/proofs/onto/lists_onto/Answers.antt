@@ -21,7 +21,7 @@ loop-section-init c =
     record {
       page_size = ap (λ it. it.page_size) c.new-lists.ensures;
       max = ap (λ it. it.max) c.new-lists.ensures;
-      countable = subst (All (IsCountable c.args.page_size)) (sym are) c.requires;
+      countable = subst (All (IsCountable c.args.base.now.page_size)) (sym are) c.requires.countable;
       to =
           subst (AreListedTo all c.new-lists.result.lists) (sym are)
           (subst (λ lists. AreListedTo all lists all) (sym (ap (λ it. it.lists) c.new-lists.ensures)) (none_listed all));
@@ -33,9 +33,9 @@ push-requires c =
     let with_its : Section → Section = with_partner (base_of c.args.sound.now) in
     let next = popped with_its c.loop-section.left.items c.pop.new.self.items c.in-Some.section c.in-Some.ensures.items in
     subst (λ size. IsCountable size (with_before c.in_ok-before.before c.in-Some.section)) (sym c.loop-section.invariant.page_size)
-    (enough_countable c.args.page_size c.in-Some.section (pairs_from (partner_of (base_of c.args.sound.now) c.in-Some.section)) c.in_ok-before.before
-    c.in_ok-before.ensures (All-head (IsCountable c.args.page_size) (with_its c.in-Some.section) (map with_its (reverse c.pop.new.self.items))
-    (subst (All (IsCountable c.args.page_size)) next c.loop-section.invariant.countable)))
+    (enough_countable c.args.base.now.page_size c.in-Some.section (pairs_from (partner_of (base_of c.args.sound.now) c.in-Some.section)) c.in_ok-before.before
+    c.in_ok-before.ensures (All-head (IsCountable c.args.base.now.page_size) (with_its c.in-Some.section) (map with_its (reverse c.pop.new.self.items))
+    (subst (All (IsCountable c.args.base.now.page_size)) next c.loop-section.invariant.countable)))
 
 pub loop-section-preserved : goal.loop-section-preserved
 loop-section-preserved c =
@@ -49,8 +49,8 @@ loop-section-preserved c =
       page_size = c.push.ensures.page_size ∙ c.loop-section.invariant.page_size;
       max = c.push.ensures.max ∙ c.loop-section.invariant.max;
       countable =
-          All-tail (IsCountable c.args.page_size) (with_its c.in-Some.section) rest
-          (subst (All (IsCountable c.args.page_size)) next c.loop-section.invariant.countable);
+          All-tail (IsCountable c.args.base.now.page_size) (with_its c.in-Some.section) rest
+          (subst (All (IsCountable c.args.base.now.page_size)) next c.loop-section.invariant.countable);
       to =
           one_listed all c.loop-section.lists.lists c.push.new.self.lists (with_its c.in-Some.section) rest
           (subst (AreListedTo all c.loop-section.lists.lists) next c.loop-section.invariant.to)
@@ -66,10 +66,10 @@ returns-in_err-push-clause-refused c =
     enough_section c.in-Some.section (pairs_from (partner_of (base_of c.args.sound.now) c.in-Some.section)) c.in_ok-before.before c.in_ok-before.ensures in
     let lists = c.loop-section.lists.lists in
     let error = c.in_err-push.field-0.0 in
-    refused_as c.from_residual-in_err-push.result (IsPartRefusal c.args.page_size c.args.max all) error c.from_residual-in_err-push.ensures.1
-    (next_refused c.args.page_size c.args.max all lists (with_its c.in-Some.section) (map with_its (reverse c.pop.new.self.items)) error
+    refused_as c.from_residual-in_err-push.result (IsPartRefusal c.args.base.now.page_size c.args.max all) error c.from_residual-in_err-push.ensures.1
+    (next_refused c.args.base.now.page_size c.args.max all lists (with_its c.in-Some.section) (map with_its (reverse c.pop.new.self.items)) error
     (subst (AreListedTo all lists) next c.loop-section.invariant.to)
-    (subst (λ s. IsListRefusal c.args.page_size c.args.max (lists ++ s ∷ []) error) section
+    (subst (λ s. IsListRefusal c.args.base.now.page_size c.args.max (lists ++ s ∷ []) error) section
     (subst (λ size. IsListRefusal size c.args.max (lists ++ ordered_section (with_before c.in_ok-before.before c.in-Some.section) ∷ []) error)
     c.loop-section.invariant.page_size
     (subst (λ max. IsListRefusal c.loop-section.lists.page_size max (lists ++ ordered_section (with_before c.in_ok-before.before c.in-Some.section) ∷ []) error)

@@ -8,9 +8,9 @@ use Rattle.bdb_tool_build.proofs.onto.lists_onto.Given as goal
 -- The lists of the first sections stand, and the pages of the others can be counted.
 abbrev pub invariant-loop-section : goal.invariant-loop-section
 invariant-loop-section l = record {
-  page_size : l.lists.page_size ≡ l.fn.page_size;
+  page_size : l.lists.page_size ≡ l.fn.base.page_size;
   max : l.lists.max ≡ l.fn.max;
-  countable : All (IsCountable l.fn.page_size) (map (with_partner (base_of l.fn.sound)) (reverse l.left.items));
+  countable : All (IsCountable l.fn.base.page_size) (map (with_partner (base_of l.fn.sound)) (reverse l.left.items));
   to : AreListedTo (map (with_partner (base_of l.fn.sound)) l.fn.sections) l.lists.lists (map (with_partner (base_of l.fn.sound)) (reverse l.left.items));
 }
 
