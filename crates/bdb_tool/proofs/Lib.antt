@@ -2,6 +2,7 @@ pub mod BuiltLemmas
 pub mod RepairLemmas
 pub mod OntoLemmas
 pub mod RunLemmas
+pub mod ClaimLemmas
 pub mod TaskLemmas
 pub mod WantLemmas
 pub mod OrderLemmas

@@ -89,7 +89,7 @@ base_stopped limit text base written faults err MemoryStop status unread told_li
 abbrev onto_command : ℕ → List ℕ → Command
 onto_command limit file = record { limit = limit; action = LoadOnto file }
 
-on_base : (words : List (List ℕ)) (limit : ℕ) (are : AreOnto words limit) → command_on words true ≡ Some (onto_command limit are.file)
+pub on_base : (words : List (List ℕ)) (limit : ℕ) (are : AreOnto words limit) → command_on words true ≡ Some (onto_command limit are.file)
 on_base words limit are = ap (handed true) are.command_is
 
 reading_base : (words : List (List ℕ)) (limit : ℕ) → AreOnto words limit → AreReading (command_on words true)

@@ -1,6 +1,7 @@
 //! What is done with a task: each is answered by the file of its command.
 ghost use Rattle.std.specs.Prelude.{◌≡◌};
 ghost use Rattle.bdb_repair.specs.of_model.Change.{change};
+ghost use Rattle.bdb_tool.specs.Claims.{TaskReads};
 ghost use Rattle.bdb_tool.specs.Parts.{IsTaskAnswered};
 ghost use Rattle.bdb_tool.specs.Tasks.{IsFitTask};
 
@@ -22,7 +23,8 @@ pub(crate) fn answer<K: Sink, E: Sink, L: Ledger>(
     steps: &mut Steps<L>,
 ) -> u8
     requires { IsFitTask task }
-    ensures { IsTaskAnswered task.entry (change K.written K.faults out.old out.new) (change E.written E.faults err.old err.new) result }
+    ensures answer { IsTaskAnswered task.entry (change K.written K.faults out.old out.new) (change E.written E.faults err.old err.new) result }
+    ensures cost { TaskReads task.entry steps.old steps.new }
 {
     match task {
         Task::Read(rows, reading, image) => {

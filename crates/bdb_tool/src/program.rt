@@ -1,7 +1,8 @@
-ghost use Rattle.std.specs.Prelude.{◌≡◌, ◌⊎◌, ◌≤◌, ◌^◌, List, Some, false, length, ℕ};
+ghost use Rattle.std.specs.Prelude.{◌≡◌, ◌⊎◌, ◌≤◌, ◌^◌, List, Some, false, is_some, length, true, ℕ};
 ghost use Rattle.bdb_repair.specs.of_model.Change.{change};
 ghost use Rattle.bdb_repair.specs.of_model.Lines.{memory_line};
 ghost use Rattle.bdb_tool_words.specs.Commands.{command_on};
+ghost use Rattle.bdb_tool.specs.Claims.{RunReads};
 ghost use Rattle.bdb_tool.specs.Outputs.{Asked, asked_alone};
 ghost use Rattle.bdb_tool.specs.Parts.{EndsOnto, IsToldOfBase, IsToldStop, too_long_line};
 ghost use Rattle.bdb_tool_ask.specs.of_tool_lines.Finished.{Tells};
@@ -21,7 +22,7 @@ use std::sync::ledger::{Blank, Ledger};
 
 /// All that the program does. Reads the source if the arguments ask for it, and then the base, a second file, if they ask for one that is handed in;
 /// writes the answer to `out` and lines on what is wrong to `err`; and answers the exit status, one of the constants in `status`. `steps` counts the
-/// pages whose references are read.
+/// pages whose references are read; of `salvage`, `survey` and `repair --apart` those that are read for claims, each whole page of the input at most once.
 pub fn run<S: Source, B: Source, K: Sink, E: Sink, L: Ledger>(
     alloc: Global,
     words: &Words,
@@ -31,8 +32,9 @@ pub fn run<S: Source, B: Source, K: Sink, E: Sink, L: Ledger>(
     err: &mut E,
     steps: &mut Steps<L>,
 ) -> u8
-    ensures { RunsOn words.now (change S.left S.faults source.old source.new) (base_change B.left B.faults base.entry base.exit)
+    ensures runs { RunsOn words.now (change S.left S.faults source.old source.new) (base_change B.left B.faults base.entry base.exit)
         (change K.written K.faults out.old out.new) (change E.written E.faults err.old err.new) result }
+    ensures cost { RunReads (command_on words.now (is_some base.entry)) (change S.left S.faults source.old source.new) steps.old steps.new }
 {
     match base {
         Some(base) => run_with(alloc, words, source, base, out, err, steps),
@@ -88,9 +90,10 @@ fn run_alone<S: Source, K: Sink, E: Sink, L: Ledger>(
     err: &mut E,
     steps: &mut Steps<L>,
 ) -> u8
-    ensures { (asked : Asked) → asked.command ≡ command_on words.now false
+    ensures runs { (asked : Asked) → asked.command ≡ command_on words.now false
         → RunsAs asked (change S.left S.faults source.old source.new) (change K.written K.faults out.old out.new) (change E.written E.faults err.old err.new)
         result }
+    ensures cost { RunReads (command_on words.now false) (change S.left S.faults source.old source.new) steps.old steps.new }
 {
     match task_of(alloc, words, source) {
         Ok(task) => answer(alloc, task, out, err, steps),
@@ -108,8 +111,9 @@ fn run_with<S: Source, B: Source, K: Sink, E: Sink, L: Ledger>(
     err: &mut E,
     steps: &mut Steps<L>,
 ) -> u8
-    ensures { RunsOn words.now (change S.left S.faults source.old source.new) (Some (change B.left B.faults base.old base.new))
+    ensures runs { RunsOn words.now (change S.left S.faults source.old source.new) (Some (change B.left B.faults base.old base.new))
         (change K.written K.faults out.old out.new) (change E.written E.faults err.old err.new) result }
+    ensures cost { RunReads (command_on words.now true) (change S.left S.faults source.old source.new) steps.old steps.new }
 {
     match base_limit(words) {
         Some(limit) => load_onto(alloc, limit, source, base, out, err, steps),

@@ -4,6 +4,7 @@ ghost use Rattle.bdb_repair.specs.of_mkfile.NamedImages.{HasBuiltTables};
 ghost use Rattle.bdb_repair.specs.of_model.Change.{change};
 ghost use Rattle.bdb_repair.specs.of_model.Lines.{memory_line};
 ghost use Rattle.bdb_repair.specs.of_rescue.Guesses.{chosen, is_queue_or_master, unsupported_case};
+ghost use Rattle.bdb_tool.specs.Claims.{ReadsWithin, built_guess};
 ghost use Rattle.bdb_tool.specs.Outputs.{IsRepairAnswer};
 ghost use Rattle.bdb_tool_ask.specs.of_tool_lines.Finished.{Tells};
 ghost use Rattle.bdb_tool.specs.Parts.{Ends, IsBuiltTold, IsRepairBuilt, TellsWhy, refusal_by, refused_answer, repair_refusal};
@@ -115,6 +116,7 @@ fn built_of<L: Ledger>(
     requires limit { limit ≤ 2 ^ 30 }
     ensures built { IsRepairBuilt limit asked.built (chosen asked.guess image.now) image.now result }
     ensures tables { IfOk result (λ built. HasBuiltTables built) }
+    ensures cost { ReadsWithin (built_guess asked.built asked.guess) image.now steps.old steps.new }
 {
     let max = u64::from(limit);
     match asked.built {
@@ -123,7 +125,8 @@ fn built_of<L: Ledger>(
     }
 }
 
-/// Answers `repair` of an image. Nothing is written before the new one stands whole.
+/// Answers `repair` of an image. Nothing is written before the new one stands whole. Where each database is built, `steps` counts the pages whose
+/// references are read for claims: each whole page at most once.
 pub(crate) fn answer_repair<K: Sink, E: Sink, L: Ledger>(
     alloc: Global,
     image: &[u8],
@@ -136,8 +139,9 @@ pub(crate) fn answer_repair<K: Sink, E: Sink, L: Ledger>(
     requires size { length image.now ≤ 2 ^ 30 }
     requires limit { limit ≤ 2 ^ 30 }
     requires guess { IsFitRepair asked }
-    ensures { Ends (IsRepairAnswer limit asked.built asked.guess image.now)
+    ensures answer { Ends (IsRepairAnswer limit asked.built asked.guess image.now)
         (change K.written K.faults out.old out.new) (change E.written E.faults err.old err.new) result }
+    ensures cost { ReadsWithin (built_guess asked.built asked.guess) image.now steps.old steps.new }
 {
     if let Some(refusal) = refusal_of(asked, image) {
         return tell_refusal(alloc, refusal, err);

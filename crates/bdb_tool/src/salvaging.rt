@@ -1,13 +1,15 @@
 //! The commands that read a damaged image: its texts, and what it still has.
-ghost use Rattle.std.specs.Prelude.{◌≡◌, ◌≤◌, ◌^◌, Some, length};
+ghost use Rattle.std.specs.Prelude.{◌≡◌, ◌+◌, ◌≤◌, ◌^◌, Some, length};
+ghost use Rattle.bdb_repair.specs.Claims.{claim_pages};
 ghost use Rattle.bdb_repair.specs.of_model.Change.{change};
+ghost use Rattle.bdb_repair.specs.of_rescue.Kept.{file_in};
 ghost use Rattle.bdb_tool.specs.Outputs.{extract_answer};
 ghost use Rattle.bdb_tool.specs.Wants.{case_of, wanted_answer, wanted_by, wanted_of};
 ghost use Rattle.bdb_tool_ask.specs.of_tool_lines.Finished.{Finishes};
 ghost use Rattle.bdb_tool_words.specs.WordsSeen.{IsFitGuess};
 
 use bdb_repair::{
-    Apart, Guess, SalvageError, Salvaged, Sink, Steps, Unsupported, apart_of, salvage,
+    Apart, Guess, SalvageError, Salvaged, Sink, Steps, Unsupported, apart_of, salvage_uncounted,
     unsupported_case,
 };
 use bdb_tool_ask::status::NO_META;
@@ -86,8 +88,9 @@ fn answer_salvaged<K: Sink, E: Sink, L: Ledger>(
     steps: &mut Steps<L>,
 ) -> u8
     requires { length salvaged.now.image ≤ 2 ^ 30 }
-    ensures { Finishes (wanted_by wanted (Some salvaged.now.guess) salvaged.now.image)
+    ensures answer { Finishes (wanted_by wanted (Some salvaged.now.guess) salvaged.now.image)
         (change K.written K.faults out.old out.new) (change E.written E.faults err.old err.new) result }
+    ensures cost { steps.new ≤ steps.old + (file_in salvaged.now).count }
 {
     match wanted {
         Wanted::Together(print) => report(write_salvaged(alloc, out, salvaged, print), err),
@@ -98,7 +101,8 @@ fn answer_salvaged<K: Sink, E: Sink, L: Ledger>(
     }
 }
 
-/// Answers with what is wanted of an image, by the guess that is given or that page 0 tells.
+/// Answers with what is wanted of an image, by the guess that is given or that page 0 tells. `steps` counts the pages whose references are read for
+/// claims: each whole page at most once.
 pub(crate) fn answer_damaged<K: Sink, E: Sink, L: Ledger>(
     alloc: Global,
     image: &[u8],
@@ -110,13 +114,14 @@ pub(crate) fn answer_damaged<K: Sink, E: Sink, L: Ledger>(
 ) -> u8
     requires size { length image.now ≤ 2 ^ 30 }
     requires guess { IsFitGuess guess }
-    ensures { Finishes (wanted_answer wanted guess image.now)
+    ensures answer { Finishes (wanted_answer wanted guess image.now)
         (change K.written K.faults out.old out.new) (change E.written E.faults err.old err.new) result }
+    ensures cost { steps.new ≤ steps.old + claim_pages guess image.now }
 {
     if let Some(case) = case_of(wanted, guess, image) {
         return tell_case(alloc, case, err);
     }
-    match salvage(alloc, image, guess, steps) {
+    match salvage_uncounted(alloc, image, guess) {
         Ok(salvaged) => answer_salvaged(alloc, &salvaged, wanted, out, err, steps),
         Err(SalvageError::NoMeta) => tell(err, b"no metadata page\n", NO_META),
         Err(SalvageError::Memory) => tell_memory(err),

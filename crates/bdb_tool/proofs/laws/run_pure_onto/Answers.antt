@@ -4,5 +4,5 @@ use Rattle.bdb_tool.proofs.laws.run_pure_onto.Goals as goal
 
 pub returns-clause-answers : goal.returns-clause-answers
 returns-clause-answers g c =
-    λ no_memory. pure_status_onto _ _ _ _ _ _ _ _ c.run.ensures (ap Some c.new-source.ensures) (ap Some c.new-base.ensures) never_rose never_rose never_rose
-    never_rose no_memory
+    λ no_memory. pure_status_onto _ _ _ _ _ _ _ _ c.run.ensures.runs (ap Some c.new-source.ensures) (ap Some c.new-base.ensures) never_rose never_rose
+    never_rose never_rose no_memory
