@@ -101,6 +101,8 @@ OTHER_DATABASE = OF_DATABASE.format("other", "").encode()
 ALL_REPLACED, ALL_FULL_REPLACED = ("".join(OF_DATABASE.format(f"{at:08x}", " 6b6579\n 61\n") for at in range(count)).encode() for count in (2_000, 8_000))
 ONTO_DATABASES = (Run(("load", "--max-bytes", "4000000"), 6, onto=OTHER_DATABASE), Run(("load", "--max-bytes", "4000000"), 0, onto=ALL_REPLACED))
 ONTO_FULL_DATABASES = (Run(("load", "--max-bytes", "10000000"), 6, onto=OTHER_DATABASE), Run(("load",), 0, onto=ALL_FULL_REPLACED))
+# Each database of the base is sought by its name.
+ONTO_NAMES = (Run(("load",), 0, onto=OTHER_DATABASE),)
 # The base itself is within the limit.
 ONTO_MEGABYTES, ONTO_TABLE_MEGABYTES = (
     (
@@ -218,7 +220,7 @@ CLASSES = (
     Class("zero-pages-btree", "zero pages in a btree", files.zero_pages_btree, 131_072, "NoOwner", FAULTY),
     Class("zero-pages-tail", "zero pages behind the last one", files.zero_pages_tail, 131_072, "", SOUND + (get("a"),)),
     # Names, and queues.
-    Class("name-many", "names of one length and beginning", files.many_names, 16_000, "", SOUND + (get("--name", "zzzz", "key"),) + APART),
+    Class("name-many", "names of one length and beginning", files.many_names, 16_000, "", SOUND + (get("--name", "zzzz", "key"),) + APART + ONTO_NAMES),
     Class("name-none", "metadata pages without a name", files.metadata_without_names, 24_000, "Unnamed", FAULTY + APART),
     Class("name-one-page", "names of one metadata page", files.names_of_one_page, 131_072, "MetaTwice", FAULTY + APART),
     Class("queue-range", "a queue of all numbers, with few full pages", files.queue_range, 16_384, "", SOUND + (get("1"), get("4294967294", status=9))),
