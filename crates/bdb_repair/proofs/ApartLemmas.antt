@@ -4,7 +4,7 @@ use Rattle.std.specs.Prelude.{◌==◌, IfErr, IfOk, IsTrue, OnOk, nat_lt}
 use Rattle.std.specs.List.{All, flat_map, fold}
 use Rattle.std.proofs.lemmas.List.Elements.{All-cons, All-head, All-nil, All-tail}
 use Rattle.bdb_model.specs.of_format.declared.metadata.QueueMeta.{QueueMeta}
-use Rattle.bdb_model.specs.of_format.Terms.{BtreeFields, HashFields, Meta, Metadata, Page, QueueFields, is_page_size, names_databases, page_at}
+use Rattle.bdb_model.specs.of_format.Terms.{BtreeFields, HashFields, Meta, Metadata, Page, QueueFields, is_page_size, page_at}
 use Rattle.bdb_model.specs.of_text_format.declared.sections.Section.{Section}
 use Rattle.bdb_law_kept.specs.of_text.WrittenLaw.{AreBytes}
 use Rattle.bdb_mkfile.specs.Builds.{Builds, image_size}
@@ -15,16 +15,15 @@ use Rattle.bdb_mkfile.specs.of_settle.LoadErrors.{load_error, page_size_in, sect
 use Rattle.bdb_mkfile.specs.of_settle.declared.load_error.LoadError.{LoadError}
 use Rattle.bdb_mkfile.specs.of_settle.declared.load_error.LoadError.TheVariants.{TooLarge as TooLargeImage, Memory as MemoryForIt}
 use Rattle.bdb_apart.specs.Found.{Found, found, found_beside, found_under, is_alone, named_above, only_found, tree_fields, unnamed_above, with_found}
-use Rattle.bdb_apart.specs.Given.{FoundIn, in_image}
+use Rattle.bdb_apart.specs.Given.{in_image}
 use Rattle.bdb_apart.specs.Queues.{queue_in}
 use Rattle.bdb_rescue.specs.Kept.{Reading, file_in}
 use Rattle.bdb_rescue.specs.of_survey.declared.guess.Guess.{Guess}
 use Rattle.bdb_rescue.specs.declared.error.SalvageError.{SalvageError}
-use Rattle.bdb_rescue.specs.declared.error.SalvageError.TheVariants.{NoMeta as NoMetaThere, Memory as MemoryThere}
 use Rattle.bdb_repair.specs.declared.error.RepairError.TheVariants.{NoMeta, Memory}
 use Rattle.bdb_repair.specs.Apart.{AreBuilt, IsRepairedApart, apart_sections, section_in, sections_in}
-use Rattle.bdb_repair.specs.Repairs.{may_come, repair_answer, repair_error, repair_refusal}
-use Rattle.bdb_repair.proofs.FoundNameLemmas.{AreApart, IsNamedFit, above_fit, all_found, found_apart, named_apart, page_fits}
+use Rattle.bdb_repair.specs.Repairs.{may_come, repair_answer, repair_refusal}
+use Rattle.bdb_repair.proofs.FoundNameLemmas.{IsNamedFit, above_fit, all_found, found_apart, named_apart, page_fits}
 use Rattle.bdb_repair.proofs.GivenFitLemmas.{IsGoodSection, queue_good, section_good}
 use Rattle.bdb_repair.proofs.MetaFitLemmas.{IsFitMeta, queue_fits}
 use Rattle.bdb_repair.proofs.RepairLemmas.{IsReadBy, large_only, not_large, without_error}
@@ -220,21 +219,3 @@ nothing_built max given image reading sections read are none =
     subst (λ g. IsRepairedApart max g image (Err NoMeta)) (sym read.guess)
     (subst (λ bytes. AreBuilt max (sections_in (record { guess = reading.guess; image = bytes })) (Err NoMeta)) read.image_is
     (subst (λ all. AreBuilt max all (Err NoMeta)) are (none_built max sections none)))
-
--- memory ran out
-wanting : (max : ℕ) (sections : List Section) → AreBuilt max sections (Err Memory)
-wanting max [] = tt
-wanting max (first ∷ others) = tt
-
-pub memory_wanting : (max : ℕ) (given : Option Guess) (image : List ℕ) → IsRepairedApart max given image (Err Memory)
-memory_wanting max None image = tt
-memory_wanting max (Some guess) image = wanting max (apart_sections guess image)
-
--- there is no guess
-pub no_guess : (max : ℕ) (given : Option Guess) (image : List ℕ) → given ≡ None → IsRepairedApart max given image (Err NoMeta)
-no_guess max given image none = subst (λ g. IsRepairedApart max g image (Err NoMeta)) (sym none) tt
-
-pub nothing_salvaged : (max : ℕ) (given : Option Guess) (image : List ℕ) (result : Result Reading SalvageError) (error : SalvageError)
-    → result ≡ Err error → (result ≡ Err NoMetaThere → given ≡ None) → IsRepairedApart max given image (Err (repair_error error))
-nothing_salvaged max given image result NoMetaThere is none = no_guess max given image (none is)
-nothing_salvaged max given image result MemoryThere is none = memory_wanting max given image

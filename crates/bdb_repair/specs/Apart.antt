@@ -6,6 +6,7 @@ use Rattle.bdb_model.specs.of_text_format.declared.sections.Section.{Section}
 use Rattle.bdb_apart.specs.Given.{FoundIn, found_in}
 use Rattle.bdb_apart.specs.Text.{section_pairs, settings_in}
 use Rattle.bdb_mkfile.specs.Builds.{Builds, image_size}
+use Rattle.bdb_repair.specs.Repairs.{IsNotRepaired}
 use Rattle.bdb_repair.specs.declared.error.RepairError.{RepairError}
 use Rattle.bdb_repair.specs.declared.error.RepairError.TheVariants.{NoMeta, TooLarge, Memory}
 use Rattle.bdb_rescue.specs.Kept.{Reading}
@@ -46,7 +47,7 @@ abbrev pub AreBuilt : ℕ → List Section → Result (List ℕ) RepairError →
 AreBuilt max [] result = IsNotBuilt result
 AreBuilt max (first ∷ others) result = IsBuiltOf max (first ∷ others) result
 
--- the answer, by the guess that is given or told by page 0, where there is one
+-- the answer, by the guess that is given or told by page 0, where there is one; else no memory is asked for
 abbrev pub IsRepairedApart : ℕ → Option Guess → List ℕ → Result (List ℕ) RepairError → Type 0
-IsRepairedApart max None image result = IsNotBuilt result
+IsRepairedApart max None image result = IsNotRepaired result
 IsRepairedApart max (Some guess) image result = AreBuilt max (apart_sections guess image) result
